@@ -53,6 +53,7 @@ CALLS = {
     "verify s.toml": [*load(*INPUTS, "rule.csv", "links.csv", "prices.csv"), *PRINT],
     "many s.toml c.csv": [*load(*INPUTS, "c.csv"), *PRINT],
     "generate 2": PRINT,
+    "help": PRINT,
     "run no.toml": ["read no.toml", "write standard error"],
 }
 

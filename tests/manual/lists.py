@@ -41,6 +41,7 @@ COMMANDS = {
     "docs/PROVED.md": "What is due of each command",
     "packaging/linkage.1": None,
     "packaging/completion": None,
+    "crates/link_shell/src/keys.rt": None,
 }
 # The faults that no small input has: of a limit, of memory, of the output.
 OUT_OF_REACH = ["FileTooLong", "NoMemory", "Output", "PoolFull", "TooManyEntries", "TooManyPairs", "TooManyRows"]
@@ -73,9 +74,10 @@ def keys_of_second() -> list[str]:
 
 
 def commands_of() -> set[str]:
-    """The commands' verbs, as the specifications of the shell name them."""
+    """The commands' verbs, as the specifications of the shell name them; `--help` is another name of `help`."""
     tables = {"SettingsCommands": "settings_verbs", "Commands": "forms"}
-    return {verb for module, table in tables.items() for verb in codes_of(table, read(f"crates/link_shell/specs/{module}.antt"))}
+    texts = {table: read(f"crates/link_shell/specs/{module}.antt") for module, table in tables.items()}
+    return {verb.lstrip("-") for table, text in texts.items() for verb in codes_of(table, text)}
 
 
 def spec_piece(piece: str) -> str:
@@ -109,10 +111,12 @@ def unmade_faults() -> list[str]:
 
 
 def commands_in(path: str, head: str | None) -> list[str]:
-    """The commands that a page has: in the first column of its tables under a heading, or as the man page and the completion name them."""
+    """The commands that a page has: in the first column of its tables under a heading, or as man page, completion and `help` name them."""
     if head:
         fronts = [re.match(r"(?:`[^`]*`(?:, )?)*", row[0]).group(0) for row in table_rows(path, head)]
         found = re.findall(r"`([a-z]+)", " ".join(fronts))
+    elif path.endswith(".rt"):
+        found = re.findall(r"^\\x20 ([a-z]+)", read(path), flags=re.M)
     elif path.endswith(".1"):
         found = re.findall(r"^\.It Cm (\w+) ", read(path), flags=re.M)
     else:

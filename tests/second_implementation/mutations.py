@@ -32,7 +32,7 @@ BAD = {"number": ["01", "0"], "date": ["2024-2-30", "2020-01-01"], "reviewer": [
 BAD |= {"verdict": ["no", "open"], "id_a": ["nobody"], "id_b": ["nobody", ""], "status": ["yes"], "capacity": ["1001", "01"]}
 READ_BY = {"a": "pairs", "b": "pairs", "sample": "rule", "journal": "open", "verdicts": "review", "capacities": "many"}
 NO_TOML = [b"x", b"a = 1\na = 2", b"seed = 9223372036854775808", b"\xff = 1", b"a = {", b'"\x01" = 1', b"a = 01"]
-COMMANDS = "run verify pairs rule open migrate duplicates many review frontier generate keys Run".split() + [""]
+COMMANDS = "run verify pairs rule open migrate duplicates many review frontier generate keys help --help Run".split() + [""]
 WORDS = ["s.toml", "s.toml", "a.csv", "2024-05-01", "2024-02-30", "ana", "", "x" * 256, "0", "01", "5", "5", "1000001", "100001", *OUTPUTS]
 
 

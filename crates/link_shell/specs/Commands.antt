@@ -1,9 +1,9 @@
 -- The commands: which one the words are a form of, by the part `usage` of the clause `performed` of `perform`, and its script, which the part
 -- `follows` says is followed.
-use Rattle.std.specs.Prelude.{◌∷◌, [], ℕ, List, Bool, drop, if◌then◌else◌, codes, Option, Some, None}
+use Rattle.std.specs.Prelude.{◌∷◌, ◌==◌, [], ℕ, List, Bool, drop, length, if◌then◌else◌, codes, Option, Some, None}
 use Rattle.settings_readers.specs.Values.{named_in}
 use Rattle.command_scripts.specs.Words.{Script}
-use Rattle.link_shell.specs.Generate.{are_generate_words, generate_script, rows_asked, are_keys_words, keys_script, are_column_words, Columns, columns_in, columns_script}
+use Rattle.link_shell.specs.Generate.{are_generate_words, generate_script, rows_asked, are_keys_words, keys_script, help_script, are_column_words, Columns, columns_in, columns_script}
 use Rattle.link_shell.specs.SettingsCommands.{are_frontier_words, Asked, asked_in, frontier_script, OfFile, settings_named, settings_script}
 use Rattle.link_shell.specs.DuplicatesSettings.{are_many_words, many_in, many_script, ManyFiles}
 use Rattle.link_shell.specs.ReviewSettings.{are_review_words, NewReview, review_in, review_script}
@@ -22,6 +22,7 @@ pub data Command : Type 0 where
   review_of_settings : NewReview → Command
   many_of_settings : ManyFiles → Command
   generation : ℕ → Command
+  help : Command
 
 abbrev pub run_of_settings : List ℕ → Command
 run_of_settings = of_settings ask.Run
@@ -35,7 +36,7 @@ migration_of_settings = of_settings ask.Migrate
 -- the verbs of the commands that take other words
 abbrev pub forms : List (List ℕ × Form)
 forms = (codes "pairs", form.Columns) ∷ (codes "keys", form.Keys) ∷ (codes "frontier", form.Frontier) ∷ (codes "review", form.Review)
-    ∷ (codes "many", form.Many) ∷ (codes "generate", form.Generate) ∷ []
+    ∷ (codes "many", form.Many) ∷ (codes "generate", form.Generate) ∷ (codes "help", form.Help) ∷ (codes "--help", form.Help) ∷ []
 
 -- the words of each, its verb apart
 abbrev pub are_words : Form → List (List ℕ) → Bool
@@ -45,6 +46,7 @@ are_words form.Frontier = are_frontier_words
 are_words form.Review = are_review_words
 are_words form.Many = are_many_words
 are_words form.Generate = are_generate_words
+are_words form.Help = λ words. length words == 1
 
 -- what they ask for
 abbrev pub command_in : Form → List (List ℕ) → Command
@@ -54,6 +56,7 @@ command_in form.Frontier words = frontier_of_settings (asked_in words)
 command_in form.Review words = review_of_settings (review_in words)
 command_in form.Many words = many_of_settings (many_in words)
 command_in form.Generate words = generation (rows_asked words)
+command_in form.Help words = help
 
 abbrev pub form_command : Option Form → List (List ℕ) → Option Command
 form_command None words = None
@@ -77,3 +80,4 @@ script_of (frontier_of_settings asked) = frontier_script asked
 script_of (review_of_settings review) = review_script review
 script_of (many_of_settings w) = many_script w
 script_of (generation rows) = generate_script rows
+script_of help = help_script

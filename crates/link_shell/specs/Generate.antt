@@ -18,6 +18,7 @@ use Rattle.command_steps.specs.Reviewed.{ReviewedPlan, SharedDecisions}
 use Rattle.command_scripts.specs.declared.ends.Ended.TheVariants.{Done}
 use Rattle.link_shell.specs.Words.{word, is_short_word}
 use Rattle.link_shell.specs.declared.generate.TheConstants.{HEAD_LINES}
+use Rattle.link_shell.specs.declared.keys.TheConstants.{HELP}
 use Rattle.std.specs.List.{list_all}
 use Rattle.link_core.specs.NameKeys.{keys_text}
 use Rattle.link_shell.specs.declared.words.TheConstants.{MOST_LISTED}
@@ -78,6 +79,10 @@ are_keys_words words =
 -- the text of the words: no step is a load
 abbrev pub keys_script : List (List ℕ) → Script
 keys_script words = record { Found = List ℕ; steps = gives (Ok (keys_text words)); due = is_printed }
+
+-- The command `help`: the commands, a line each, and the statuses, are printed.
+abbrev pub help_script : Script
+help_script = record { Found = List ℕ; steps = gives (Ok HELP.now); due = is_printed }
 
 -- The command `pairs A B COLUMN`: its words, its steps and what is due, by the part `follows` of the clause `performed` of `perform`.
 

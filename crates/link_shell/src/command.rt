@@ -35,15 +35,18 @@ pub(crate) enum Form {
     Review,
     Many,
     Generate,
+    Help,
 }
 
-const FORMS: [(&str, Form); 6] = [
+const FORMS: [(&str, Form); 8] = [
     ("pairs", Form::Columns),
     ("keys", Form::Keys),
     ("frontier", Form::Frontier),
     ("review", Form::Review),
     ("many", Form::Many),
     ("generate", Form::Generate),
+    ("help", Form::Help),
+    ("--help", Form::Help),
 ];
 
 // The form of which the first word is the verb.
@@ -91,6 +94,8 @@ fn follow_form<S: Store, O: Sink>(
             Some(rows) => generate::perform(alloc, rows, store, out),
             None => Err(Refusal::Usage),
         },
+        Form::Help if words.len() == 1 => keys::print_help(alloc, store, out),
+        Form::Help => Err(Refusal::Usage),
     }
 }
 

@@ -171,6 +171,30 @@ def generate(_: Held, number: str) -> Ended:
     return Ended(0, out=None)
 
 
+HELP = """\
+usage: linkage COMMAND
+  run SETTINGS                            links two files: writes pairs, rule, links, prices and a report
+  verify SETTINGS                         says whether rule, links and prices are what a run may write
+  pairs SETTINGS                          prints the pairs that the blocking passes compare
+  rule SETTINGS                           prints the decision rule, a row for each comparison pattern
+  frontier SETTINGS MU..                  prints how clerical review falls as the level of wrong links grows
+  open SETTINGS                           prints the possible links that wait for a verdict
+  review SETTINGS VERDICTS DATE REVIEWER  adds the verdicts of a reviewer to the journal
+  migrate SETTINGS                        writes a journal of the first version as one of the second
+  duplicates SETTINGS                     prints the groups of records of A that links join
+  many SETTINGS CAPACITIES                prints links of up to a stated number of records of A to each of B
+  keys WORD..                             prints standard text, Soundex and NYSIIS key of names
+  pairs A B COLUMN                        prints the rows of two files whose fields in a column are equal
+  generate NUMBER                         runs a made input of so many rows a side in memory
+  help                                    prints this
+status: 0 done, 2 usage, 3 settings, 4 input, 5 limit, 6 store, 7 output, 8 memory, 9 refuted
+"""
+
+
+def help_(_: Held) -> Ended:
+    return Ended(0, out=HELP.encode())
+
+
 # The commands of a settings file alone.
 OF_SETTINGS = {it.__name__.strip("_"): it for it in (pairs, rule, open_, run, verify, migrate, duplicates)}
 
@@ -183,6 +207,8 @@ def command_of(words: list[str]):
     rising = lambda them: all(map(is_level, them)) and all(int(x) < int(y) for x, y in zip(them, them[1:]))
     if kind == "keys":
         return keys if 1 <= len(rest) <= 100 and all(len(it.encode()) <= 255 for it in rest) else None
+    if kind in ("help", "--help"):
+        return help_ if not rest else None
     if kind == "generate":
         return generate if len(rest) == 1 and re.fullmatch("[2-9]|[1-9][0-9]{1,4}|100000", rest[0]) else None
     if kind == "pairs" and len(rest) == 3:
