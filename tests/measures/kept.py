@@ -6,7 +6,8 @@ from pathlib import Path
 import costs
 
 PATH = Path(__file__).with_name("kept.toml")
-HEAD = """# What commands take on the made input, by the rows of a file: instructions, and memory in KiB (tests/measures/run --keep).
+HEAD = """# What commands take on the made input, by the rows of a file: instructions, and memory in KiB (tests/measures/run --keep). Below
+# them are the instructions of a plain program for the same work (Rust, unproved), which are not measured here.
 
 """
 
@@ -34,7 +35,7 @@ class Kept:
     def write(self) -> None:
         """Writes what was measured over what was kept; what was not measured now stays."""
         lines = [f'kit = "{kit()}"', f'machine = "{costs.machine()}"']
-        for kind in ("instructions", "memory"):
+        for kind in ("instructions", "memory", "plain"):
             lines += ["", f"[{kind}]"]
             commands = self.held.get(kind, {}) | self.seen.get(kind, {})
             for command in commands:
