@@ -31,6 +31,7 @@ impl Model for IdSet {
 }
 
 // Keeps an id in a pool, if it is new; else gives the place of the one that is held.
+#[inline(never)]
 fn keep_in_pool(pool: &mut Pool, alloc: Global, id: &[u8]) -> Result<Option<usize>, NoMemory>
     ensures keeps { IfOk result (λ found. Keeps id.now pool.old.texts pool.new.texts found) }
     ensures within { IfOk result (λ found. IfSome found (λ place. place < length pool.old.texts)) }
@@ -51,6 +52,7 @@ fn keep_in_pool(pool: &mut Pool, alloc: Global, id: &[u8]) -> Result<Option<usiz
 
 // Keeps an id behind ids that rise, if it is new, and pools them where it does not come last; else gives the place of the one
 // that is held.
+#[inline(always)]
 fn keep_behind(
     rising: &mut TextRegion,
     index: &mut Option<Pool>,
@@ -112,6 +114,7 @@ impl IdSet {
     }
 
     /// Keeps an id that is new; else gives the place of the one that is held. A set of more than 1 GiB is want of memory.
+    #[inline(always)]
     pub fn keep(&mut self, alloc: Global, id: &[u8]) -> Result<Option<usize>, NoMemory>
         ensures keeps { IfOk result (λ found. Keeps id.now self.old self.new found) }
         ensures within { IfOk result (λ found. IfSome found (λ place. place < length self.old)) }

@@ -64,6 +64,7 @@ impl TextRegion {
     }
 
     /// Appends a text. A region of more than 4 GiB is want of memory.
+    #[inline(always)]
     pub fn push(&mut self, text: &[u8]) -> Result<(), NoMemory>
         ensures ok { OnOk result (self.new ≡ self.old ++ text.now ∷ []) }
         ensures err { OnErr result (self.new ≡ self.old) }
@@ -88,10 +89,11 @@ impl TextRegion {
 pub(crate) fn end_behind(start: usize, items: usize) -> Result<u32, NoMemory>
     ensures { IfOk result (λ end. end ≡ start + items) }
 {
-    match u32::try_from(start.saturating_add(items)) {
-        Ok(end) => Ok(end),
-        Err(_) => Err(NoMemory),
+    let end = start.saturating_add(items);
+    if end > u32::MAX as usize {
+        return Err(NoMemory);
     }
+    Ok(end as u32)
 }
 
 // Where so many pieces end, which is where the next one begins.

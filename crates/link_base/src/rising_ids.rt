@@ -92,6 +92,7 @@ fn take_in(pool: &mut Pool, alloc: Global, text: &[u8]) -> Result<(), NoMemory>
 }
 
 /// The same ids in a pool with room for so many.
+#[inline(never)]
 pub(crate) fn pooled(alloc: Global, ids: &TextRegion, count: u32) -> Result<Pool, NoMemory>
     requires { AreRising ids.now }
     ensures texts { IfOk result (λ pool. pool.texts ≡ ids.now) }
