@@ -1,6 +1,6 @@
 -- The first item that passes a test, sought from the front.
 use Rattle.std.proofs.Common.{◌≡◌, ◌≢◌, ◌<◌, ◌≤◌, ◌+◌, ◌==◌, ◌∷◌, ◌∙◌, ℕ, nat_lt, Bool, true, false, List, length, get_or, drop, None, Some, ap, refl, sym, arith, zero, suc, [], find, ◌++◌, map, take}
-use Rattle.std.proofs.lemmas.List.{drop_all, drop_more, append_assoc, map-append, take_more}
+use Rattle.std.proofs.lemmas.List.{drop_more, append_assoc, map-append, take_more}
 use Rattle.std.proofs.lemmas.Bool.Decides.{nat_tests}
 use Rattle.file_reader.specs.Words.{fault_by}
 use Rattle.link_base.specs.declared.fault.Fault.{Fault}
@@ -34,10 +34,6 @@ is_none n e = rw e refl
 
 pub is_some : (n : ℕ) → n ≢ 0 → (n == 0) ≡ false
 is_some n le = grind (arith, nat_tests)
-
--- behind the last item nothing is found
-pub none_found : {A : Type 0} (p : A → Bool) (xs : List A) (i : ℕ) → length xs ≤ i → find p (drop i xs) ≡ find p xs → find p xs ≡ None
-none_found p xs i le told = sym told ∙ ap (find p) (drop_all i xs le)
 
 -- a field that is not there
 pub field-none : (fields : List (List ℕ)) (at : ℕ) → field_at fields at ≡ None → get_or fields at [] ≡ []

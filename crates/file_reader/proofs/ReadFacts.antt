@@ -1,7 +1,14 @@
 -- A row whose bytes together are ASCII and not too long.
-use Rattle.std.proofs.Common.{◌≡◌, ◌-◌, ◌∷◌, ℕ, zero, suc, List, [], length, get_or, take, drop, None, ap, arith, nat_lt, refl, not, ◌≤◌, ◌+◌, ◌++◌, ◌∙◌, Bool, true, false, Some, Ok, Err, sym, length-drop, length-take}
+use Rattle.std.proofs.Common.{◌≡◌, ◌-◌, ◌∷◌, ℕ, zero, suc, List, [], length, get_or, take, drop, None, ap, arith, nat_lt, refl, not, ◌≤◌, ◌<◌, ◌+◌, ◌*◌, ◌++◌, ◌∙◌, Bool, true, false, Some, Ok, Err, sym, length-drop, length-take}
 use Rattle.std.specs.Str.{is_utf8}
-use Rattle.std.proofs.lemmas.Str.{is_utf8-from_IsUtf8, IsAscii-drop, IsAscii-take, IsUtf8-from_ascii}
+use Rattle.std.specs.Int.{bit_at, from_le_bytes, w64}
+use Rattle.std.specs.Int.Bits.{bit_and}
+use Rattle.std.specs.Simd.{first_chunks}
+use Rattle.std.proofs.lemmas.List.{drop-drop, get_or-drop, get_or-take, get_or_past}
+use Rattle.std.proofs.Math.Seq.{take-add}
+use Rattle.std.proofs.lemmas.Nat.Bits.{bit_at_and, bit_at-lt, bit_at-zero}
+use Rattle.std.proofs.lemmas.Str.{is_utf8-from_IsUtf8, IsAscii-append, IsAscii-drop, IsAscii-take, IsUtf8-from_ascii}
+use Rattle.std.specs.Str.{IsAscii}
 use Rattle.std.proofs.lemmas.Str.Ascii.{IsAscii-nil}
 use Rattle.csv.specs.Records.{cut_from, fields_of, Row, text_of}
 use Rattle.link_limits.specs.declared.TheConstants.{MOST_FIELD_BYTES}
@@ -12,6 +19,41 @@ use Rattle.std.proofs.lemmas.Bool.Decides.{nat_tests}
 use Rattle.link_base.specs.Words.{Refuses}
 use Rattle.link_base.specs.declared.fault.Fault.{Fault}
 use Rattle.link_base.specs.declared.fault.Fault.TheVariants as fault
+
+-- eight bytes without a high bit, and many
+high : (n i : ℕ) → bit_and n 0x8080_8080_8080_8080 ≡ 0 → bit_at 0x8080_8080_8080_8080 i ≡ 1 → bit_at n i ≡ 0
+high n i none one = omega (arith, bit_at_and n 0x8080_8080_8080_8080 i, ap (λ m. bit_at m i) none, bit_at-zero i, one, bit_at-lt n i)
+
+word_ascii : (xs : List ℕ) → ((k : ℕ) → get_or xs k 0 < 256) → bit_and (from_le_bytes w64 (take 8 xs)) 0x8080_8080_8080_8080 ≡ 0 → IsAscii (take 8 xs)
+word_ascii xs small none k = by k
+  where
+    at : (i : ℕ) → i < 8 → get_or (take 8 xs) i 0 < 256
+    at i lt = rw (get_or-take 8 xs i 0 lt) (small i)
+
+    by : (k : ℕ) → get_or (take 8 xs) k 0 < 128
+    by zero = omega (arith, high (from_le_bytes w64 (take 8 xs)) 7 none refl, at 0 (omega arith))
+    by (suc zero) = omega (arith, high (from_le_bytes w64 (take 8 xs)) 15 none refl, at 0 (omega arith), at 1 (omega arith))
+    by (suc (suc zero)) = omega (arith, high (from_le_bytes w64 (take 8 xs)) 23 none refl, at 0 (omega arith), at 1 (omega arith), at 2 (omega arith))
+    by (suc (suc (suc zero))) = omega (arith, high (from_le_bytes w64 (take 8 xs)) 31 none refl, at 0 (omega arith), at 1 (omega arith), at 2 (omega arith), at 3 (omega arith))
+    by (suc (suc (suc (suc zero)))) = omega (arith, high (from_le_bytes w64 (take 8 xs)) 39 none refl, at 0 (omega arith), at 1 (omega arith), at 2 (omega arith), at 3 (omega arith), at 4 (omega arith))
+    by (suc (suc (suc (suc (suc zero))))) = omega (arith, high (from_le_bytes w64 (take 8 xs)) 47 none refl, at 0 (omega arith), at 1 (omega arith), at 2 (omega arith), at 3 (omega arith), at 4 (omega arith), at 5 (omega arith))
+    by (suc (suc (suc (suc (suc (suc zero)))))) = omega (arith, high (from_le_bytes w64 (take 8 xs)) 55 none refl, at 0 (omega arith), at 1 (omega arith), at 2 (omega arith), at 3 (omega arith), at 4 (omega arith), at 5 (omega arith), at 6 (omega arith))
+    by (suc (suc (suc (suc (suc (suc (suc zero))))))) = omega (arith, high (from_le_bytes w64 (take 8 xs)) 63 none refl, at 0 (omega arith), at 1 (omega arith), at 2 (omega arith), at 3 (omega arith), at 4 (omega arith), at 5 (omega arith), at 6 (omega arith), at 7 (omega arith))
+    by (suc (suc (suc (suc (suc (suc (suc (suc k)))))))) = omega (arith, get_or_past (take 8 xs) (suc (suc (suc (suc (suc (suc (suc (suc k)))))))) 0 (omega (arith, length-take 8 xs)))
+
+chunk : (n i : ℕ) (xs : List ℕ) → i < n → get_or (first_chunks 8 n xs) i [] ≡ take 8 (drop (i * 8) xs)
+chunk zero i xs lt = absurd (omega arith)
+chunk (suc n) zero xs lt = refl
+chunk (suc n) (suc i) xs lt =
+    let next : 8 + i * 8 ≡ suc i * 8 = omega arith in
+    chunk n i (drop 8 xs) (omega arith) ∙ ap (take 8) (drop-drop (i * 8) 8 xs ∙ ap (λ m. drop m xs) next)
+
+pub words_more : (n i : ℕ) (xs : List ℕ) → i < n → ((k : ℕ) → get_or xs k 0 < 256) → bit_and (from_le_bytes w64 (get_or (first_chunks 8 n xs) i [])) 0x8080_8080_8080_8080 ≡ 0
+    → IsAscii (take (i * 8) xs) → IsAscii (take ((i + 1) * 8) xs)
+words_more n i xs lt small none told =
+    let here = word_ascii (drop (i * 8) xs) (λ k. rw (get_or-drop (i * 8) xs k 0) (small (i * 8 + k))) (ap (λ w. bit_and (from_le_bytes w64 w) 0x8080_8080_8080_8080) (sym (chunk n i xs lt)) ∙ none) in
+    let next : (i + 1) * 8 ≡ i * 8 + 8 = omega arith in
+    rw (next, take-add (i * 8) 8 xs) (IsAscii-append (take (i * 8) xs) (take 8 (drop (i * 8) xs)) told here)
 
 -- a part of such bytes
 part_plain : (bytes : List ℕ) (start count : ℕ) → IsPlain bytes → IsPlain (take count (drop start bytes))

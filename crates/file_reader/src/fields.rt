@@ -43,7 +43,7 @@ pub(crate) fn count_of(row: &ByteRecord, column: &[u8]) -> usize
 }
 
 // Whether a field is ASCII. Fields are short, so that byte by byte is fastest.
-pub(crate) fn is_plain(field: &[u8]) -> bool
+fn is_plain(field: &[u8]) -> bool
     ensures { IsTrue result ↔ IsAscii field.now }
 {
     for byte in field {
@@ -52,6 +52,19 @@ pub(crate) fn is_plain(field: &[u8]) -> bool
         }
     }
     true
+}
+
+// Whether many bytes are ASCII, of which none has its high bit set, eight at a time.
+pub(crate) fn are_plain(bytes: &[u8]) -> bool
+    ensures { IsTrue result → IsAscii bytes.now }
+{
+    let (words, rest) = bytes.as_chunks::<8>();
+    for word in words {
+        if u64::from_le_bytes(*word) & 0x8080_8080_8080_8080 != 0 {
+            return false;
+        }
+    }
+    is_plain(rest)
 }
 
 pub(crate) fn is_text(field: &[u8]) -> bool

@@ -1,14 +1,13 @@
 // The rows of a table.
-ghost use Rattle.std.specs.Prelude.{◌≡◌, ◌↔◌, ◌≤◌, ◌<◌, [], All, IfOk, is_some, IsTrue, None, length, ℕ};
-ghost use Rattle.csv.specs.Records.{fields_of, text_of};
+ghost use Rattle.std.specs.Prelude.{◌≡◌, ◌≤◌, ◌<◌, [], IfOk, is_some, IsTrue, length};
+ghost use Rattle.csv.specs.Records.{fields_of};
 ghost use Rattle.file_reader.specs.Table.{records_in, header_fault, id_fault, length_fault, row_fault, rows_read, table_of, taken, Tests, text_fault, under_header, utf8_fault};
 ghost use Rattle.link_base.specs.Fault.{IsAnswer};
-ghost use Rattle.file_reader.specs.Rows.{cell, field_columns, heading_of, heading_under, needed_of, wanted_of};
-ghost use Rattle.file_reader.specs.Reader.{IsPlain, FillsRows, KeepsId, TakesTableRow};
-ghost use Rattle.file_reader.specs.declared.layout.Column.{Column as Needed};
+ghost use Rattle.file_reader.specs.Rows.{field_columns, heading_of, heading_under, needed_of, wanted_of};
+ghost use Rattle.file_reader.specs.Reader.{FillsRows, KeepsId, TakesTableRow};
 ghost use Rattle.file_reader.specs.Takers.{IsTableFor, ReadsInto};
 
-use crate::fields::{field_of, is_plain, is_text};
+use crate::fields::{are_plain, field_of, is_text};
 use crate::header::{find_columns, needed_names, test_header};
 use crate::layout::{Column, Head, Layout};
 use crate::records::Records;
@@ -21,6 +20,7 @@ use link_limits::MOST_FIELD_BYTES;
 use std::alloc::Global;
 
 // Tests that the needed fields of a row are texts.
+#[inline(never)]
 fn test_utf8(alloc: Global, head: &Head, number: u32, row: &ByteRecord) -> Result<(), Fault>
     ensures fault { Tests (utf8_fault (heading_of head.now) number (fields_of row.now)) result }
 {
@@ -38,6 +38,7 @@ fn test_utf8(alloc: Global, head: &Head, number: u32, row: &ByteRecord) -> Resul
 }
 
 // Tests that the needed fields of a row are not too long.
+#[inline(never)]
 fn test_lengths(alloc: Global, head: &Head, number: u32, row: &ByteRecord) -> Result<(), Fault>
     ensures fault { Tests (length_fault (heading_of head.now) number (fields_of row.now)) result }
 {
@@ -54,33 +55,13 @@ fn test_lengths(alloc: Global, head: &Head, number: u32, row: &ByteRecord) -> Re
     Ok(())
 }
 
-// Whether all fields of a row together are ASCII and not too long, as they mostly are.
-fn is_plain_row(row: &ByteRecord) -> bool
-    ensures { IsTrue result ↔ IsPlain (text_of row.now) }
-{
-    let bytes = row.as_slice();
-    bytes.len() <= MOST_FIELD_BYTES && bytes.is_ascii()
-}
-
-// Whether each needed field of a row is ASCII and not too long.
-fn are_plain(head: &Head, row: &ByteRecord) -> bool
-    ensures faultless { IsTrue result → (number : ℕ) → text_fault (heading_of head.now) number (fields_of row.now) ≡ None }
-    ensures all { All (λ (c : Needed). IsPlain (cell (fields_of row.now) c)) head.now.columns.items → IsTrue result }
-{
-    for needed in &head.columns {
-        let field = field_of(row, needed.place);
-        if field.len() > MOST_FIELD_BYTES || !is_plain(field) {
-            return false;
-        }
-    }
-    true
-}
-
-// Tests the needed fields of a row.
+// Tests the needed fields of a row, which are mostly short and ASCII together.
+#[inline(always)]
 fn test_texts(alloc: Global, head: &Head, number: u32, row: &ByteRecord) -> Result<(), Fault>
     ensures fault { Tests (text_fault (heading_of head.now) number (fields_of row.now)) result }
 {
-    if is_plain_row(row) || are_plain(head, row) {
+    let bytes = row.as_slice();
+    if bytes.len() <= MOST_FIELD_BYTES && are_plain(bytes) {
         return Ok(());
     }
     match test_utf8(alloc, head, number, row) {
@@ -91,6 +72,7 @@ fn test_texts(alloc: Global, head: &Head, number: u32, row: &ByteRecord) -> Resu
 }
 
 // Tests an id, and keeps it.
+#[inline(always)]
 fn keep_id(
     alloc: Global,
     role: FileRole,
@@ -126,6 +108,7 @@ fn id_in<'r>(head: &Head, row: &'r ByteRecord) -> &'r [u8]
 }
 
 // Tests a row, and keeps its id.
+#[inline(always)]
 fn take_row(
     alloc: Global,
     head: &Head,
