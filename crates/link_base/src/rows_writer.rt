@@ -57,6 +57,7 @@ impl RowsWriter {
     }
 
     /// Appends a word to the open row, and keeps a copy of it. A word of more than 255 bytes that comes again is not kept again.
+    #[inline(always)]
     pub fn add_word(&mut self, word: &[u8]) -> Result<(), NoMemory>
         requires { sum_by length self.old.rows + length self.old.row < 2 ^ 32 }
         ensures { OnOk result (self.new ≡ with_value self.old (value.Word word.now)) }
@@ -103,6 +104,7 @@ impl RowsWriter {
 }
 
 // The place of a word among the words, if one with its hash stands there that is the same.
+#[inline(never)]
 fn place_of(words: &TextRegion, longer: &BTreeMap<u32, u32>, word: &[u8]) -> Option<u32>
     ensures within { IfSome result (λ at. at < length words.now) }
     ensures text { IfSome result (λ at. slice_index_or words.now at [] ≡ word.now) }
@@ -118,6 +120,7 @@ fn place_of(words: &TextRegion, longer: &BTreeMap<u32, u32>, word: &[u8]) -> Opt
 }
 
 // The cell of a word, which goes behind the words unless it is a longer one and stands among them.
+#[inline(always)]
 fn word_cell(
     words: &mut TextRegion,
     longer: &mut BTreeMap<u32, u32>,
