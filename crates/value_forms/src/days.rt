@@ -18,6 +18,7 @@ pub struct Civil {
 
 /// The day number of a civil date of the years 0001 to 9999, counted from 1970-01-01, which is 0.
 /// `None` exactly where the three numbers are no such date.
+#[inline(always)]
 pub fn day_of(year: u16, month: u8, day: u8) -> Option<i32>
     ensures day { result ≡ civil_day year month day }
     ensures valid { IfSome result (λ number. IsDay number) }
@@ -26,6 +27,7 @@ pub fn day_of(year: u16, month: u8, day: u8) -> Option<i32>
     day_number(year, month, day)
 }
 
+#[inline(always)]
 fn day_number(year: u16, month: u8, day: u8) -> Option<i32>
     ensures day { result ≡ civil_day year month day }
     ensures valid { IfSome result (λ number. IsDay number) }

@@ -28,6 +28,7 @@ fn year(run: &[u8]) -> Option<u16>
 }
 
 #[tactic(auto, unfolding(crate::specs::Written::day_of_parts))]
+#[inline(always)]
 fn day_of_runs(y: &[u8], m: &[u8], d: &[u8]) -> Option<i32>
     ensures value { result ≡ day_of_parts y.now m.now d.now }
     ensures valid { IfSome result (λ day. IsDay day) }
@@ -39,6 +40,7 @@ fn day_of_runs(y: &[u8], m: &[u8], d: &[u8]) -> Option<i32>
 }
 
 #[tactic(auto, unfolding(crate::specs::Written::in_form))]
+#[inline(always)]
 fn arranged(form: DateForm, a: &[u8], b: &[u8], c: &[u8]) -> Option<i32>
     ensures value { result ≡ in_form form a.now b.now c.now }
     ensures valid { IfSome result (λ day. IsDay day) }
@@ -80,6 +82,7 @@ fn cut_at(text: &[u8], at: usize) -> (&[u8], &[u8])
 }
 
 #[tactic(auto, unfolding(crate::specs::Written::day_with_signs))]
+#[inline(never)]
 fn signed(form: DateForm, text: &[u8]) -> Option<i32>
     ensures value { result ≡ day_with_signs form text.now }
     ensures valid { IfSome result (λ day. IsDay day) }
@@ -103,14 +106,14 @@ fn first_run(form: DateForm) -> usize
 }
 
 // A date of ten bytes, as most are, has its signs at the places of its form, and is cut there without a search.
-fn placed(form: DateForm, text: &[u8]) -> Option<i32>
+#[inline(always)]
+fn placed_at(form: DateForm, n: usize, text: &[u8]) -> Option<i32>
+    requires first { n ≡ first_length form }
+    requires few { n ≤ 4 }
+    requires whole { length text.now ≡ 10 }
     ensures value { IfSome result (λ day. day_with_signs form text.now ≡ Some day) }
     ensures valid { IfSome result (λ day. IsDay day) }
 {
-    if text.len() != 10 {
-        return None;
-    }
-    let n = first_run(form);
     let (first, rest) = cut_at(text, n);
     let (second, third) = cut_at(rest, 2);
     if !is_sign(text[n]) || rest[2] != text[n] {
@@ -119,7 +122,21 @@ fn placed(form: DateForm, text: &[u8]) -> Option<i32>
     arranged(form, first, second, third)
 }
 
+fn placed(form: DateForm, text: &[u8]) -> Option<i32>
+    ensures value { IfSome result (λ day. day_with_signs form text.now ≡ Some day) }
+    ensures valid { IfSome result (λ day. IsDay day) }
+{
+    if text.len() != 10 {
+        return None;
+    }
+    match form {
+        DateForm::Ymd => placed_at(form, 4, text),
+        DateForm::Dmy | DateForm::Mdy => placed_at(form, 2, text),
+    }
+}
+
 #[tactic(auto, unfolding(crate::specs::Written::day_without_signs))]
+#[inline(never)]
 fn plain(form: DateForm, text: &[u8]) -> Option<i32>
     ensures value { result ≡ day_without_signs form text.now }
     ensures valid { IfSome result (λ day. IsDay day) }
