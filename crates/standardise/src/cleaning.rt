@@ -1,5 +1,5 @@
 // The characters of a name, cleaned.
-ghost use Rattle.std.specs.Prelude.{◌≡◌, ◌++◌, ◌∷◌, [], IsTrue, OnOk, IfOk, IfSome, chars, encode_utf8_all, flat_map, option_to_list, IsAscii, IsUtf8, string_bytes};
+ghost use Rattle.std.specs.Prelude.{◌≡◌, ◌++◌, ◌∷◌, ◌&&◌, [], IsTrue, OnOk, IfOk, IfSome, chars, encode_utf8_all, flat_map, nat_le, option_to_list, IsAscii, IsUtf8, string_bytes};
 ghost use Rattle.standardise.specs.Cleaning.{ascii_cleaned, cleaned_char, in_apostrophes, in_capitals, letter_of, stays_in_words, with_spaces, without_apostrophes};
 ghost use Rattle.standardise.specs.Names.{characters_of, words};
 
@@ -137,6 +137,14 @@ fn clean_ascii(text: &[u8], word: &mut Vec<u8>) -> Result<Option<bool>, NoMemory
     Ok(Some(is_word))
 }
 
+// Digits are asked for apart, since few names have them.
+#[inline(never)]
+fn is_digit(byte: u8) -> bool
+    ensures { result ≡ (nat_le 48 byte && nat_le byte 57) }
+{
+    byte.is_ascii_digit()
+}
+
 /// Whether a text is known to be one word that the steps leave as it is: one of A to Z and 0 to 9.
 pub(crate) fn is_clean(text: &str) -> bool
     ensures text { IsTrue result → text.now ≡ encode_utf8_all (characters_of text.now) }
@@ -144,7 +152,7 @@ pub(crate) fn is_clean(text: &str) -> bool
 {
     let bytes = text.as_bytes();
     for byte in bytes {
-        if !byte.is_ascii_uppercase() && !byte.is_ascii_digit() {
+        if !byte.is_ascii_uppercase() && !is_digit(*byte) {
             return false;
         }
     }

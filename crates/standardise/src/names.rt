@@ -47,6 +47,7 @@ pub fn std_text(alloc: Global, text: &str, tables: &TextTables) -> Result<Value,
 
 /// The text of this value, `None` where the value is absent. It stands in `text` or among the words of the
 /// tables where it need not be made, and else in the room, in place of what stood there.
+#[inline(always)]
 pub fn std_text_in<'t>(
     alloc: Global,
     text: &'t str,

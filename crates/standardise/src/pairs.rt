@@ -17,6 +17,7 @@ fn order(pair: &WordPair, word: &[u8]) -> Ordering
 }
 
 // Where a word stands in pairs, or where it would stand.
+#[inline(never)]
 fn place_in(pairs: &[WordPair], word: &[u8]) -> Result<usize, usize>
     ensures bound { IsSearchInRange result (length pairs.now) }
     ensures place { IsBinarySearchResult (λ p. text_cmp p.from word.now) pairs.now result }
@@ -61,6 +62,7 @@ impl WordTable {
     }
 
     /// The word that stands in the place of a word.
+    #[inline(always)]
     pub(crate) fn found(&self, word: &[u8]) -> Option<&[u8]>
         ensures word { option_map (λ s. s.now) result ≡ word_for self.now word.now }
         ensures utf8 { IfSome result (λ s. IsUtf8 s.now) }

@@ -47,6 +47,7 @@ impl WordSet {
     }
 
     /// Whether a text stands in the set.
+    #[inline(always)]
     pub(crate) fn contains(&self, text: &[u8]) -> bool
         ensures { result ≡ stands_among self.now text.now }
     {
@@ -67,6 +68,7 @@ fn order(text: &Text, other: &[u8]) -> Ordering
 }
 
 // Where a text stands in texts, or where it would stand.
+#[inline(never)]
 fn place_in(texts: &[Text], text: &[u8]) -> Result<usize, usize>
     ensures bound { IsSearchInRange result (length texts.now) }
     ensures place { IsBinarySearchResult (λ t. text_cmp t text.now) texts.now result }
