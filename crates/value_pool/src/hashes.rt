@@ -47,15 +47,15 @@ pub(crate) fn last_word(text: &[u8]) -> u64
     ensures { result ≡ last_word text.now }
 {
     match *text {
-        [] => 0,
-        [a] => u64::from(a),
-        [a, b] => u64::from(a) + (u64::from(b) << 8),
-        [a, b, c] => u64::from(a) + (u64::from(b) << 8) + (u64::from(c) << 16),
-        _ if text.len() < 8 => {
+        _ if text.len() >= 8 => eight_bytes_at(text, text.len() - 8),
+        _ if text.len() >= 4 => {
             u64::from(four_bytes_at(text, 0))
                 + (u64::from(four_bytes_at(text, text.len() - 4)) << 32)
         }
-        _ => eight_bytes_at(text, text.len() - 8),
+        [] => 0,
+        [a] => u64::from(a),
+        [a, b] => u64::from(a) + (u64::from(b) << 8),
+        _ => u64::from(text[0]) + (u64::from(text[1]) << 8) + (u64::from(text[2]) << 16),
     }
 }
 

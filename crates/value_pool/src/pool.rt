@@ -120,6 +120,7 @@ impl Pool {
     }
 
     /// The id of a text, which is taken where it is new. A refusal changes nothing but that there may be more room.
+    #[inline(always)]
     pub fn intern(&mut self, alloc: Global, text: &[u8]) -> Result<Id, PoolFault>
         ensures found { IfOk result (λ id. slice_get self.new.texts id ≡ Some text.now) }
         ensures taken { OnOk result (HasTaken text.now self.old self.new) }

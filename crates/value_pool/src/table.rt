@@ -124,9 +124,11 @@ impl Table {
         ensures cause { OnErr result (HasRoom (state_of 0 self.old) 1 (length text.now) → ⊥) }
     {
         self.slots.reserve(1)?;
-        self.bytes.reserve(text.len())?;
         let start = self.bytes.len() as u32;
         let end = start + text.len() as u32;
+        if self.bytes.extend_from_slice(text).is_err() {
+            return Err(NoMemory);
+        }
         let place = self.slots.len() as u32;
         let bucket = bucket(hash, self.heads.len());
         let next = self.heads[bucket];
@@ -137,12 +139,7 @@ impl Table {
             hash,
             last,
         };
-        if self.bytes.extend_from_slice(text).is_err() {
-            return Err(NoMemory);
-        }
-        if self.slots.push(slot).is_err() {
-            return Err(NoMemory);
-        }
+        self.slots.push_reserved(slot);
         self.heads[bucket] = place + 1;
         self.order.take(alloc, text, place);
         Ok(place)

@@ -15,7 +15,7 @@ returns-clause-table c =
     let table = c.args.self.now in
     let slot : Slot = record { start = c.len-start.result; end = c.len-start.result + length c.args.text.now; next = c.index-next.result.now; hash = c.args.hash; last = c.args.last } in
     let start : c.len-start.result ≡ length table.bytes.items = search rules in
-    let grown : c.push.new.self.items ≡ table.slots.items ++ slot ∷ [] = search rules in
+    let grown : c.push_reserved.new.self.items ≡ table.slots.items ++ slot ∷ [] = search rules in
     let longer : c.extend_from_slice.new.self.items ≡ table.bytes.items ++ c.args.text.now = search rules in
     let all = appended table.bytes.items c.args.text.now table.slots.items slot _ _ c.requires.table.within c.requires.table.distinct c.requires.table.few c.requires.fresh start (ap (λ n. n + length c.args.text.now) start) c.requires.last longer grown in
     let nexts = ap nexts_of grown ∙ map-append (λ (s : Slot). s.next) table.slots.items (slot ∷ []) in
@@ -44,14 +44,14 @@ returns-clause-appended c =
     let table = c.args.self.now in
     let slot : Slot = record { start = c.len-start.result; end = c.len-start.result + length c.args.text.now; next = c.index-next.result.now; hash = c.args.hash; last = c.args.last } in
     let start : c.len-start.result ≡ length table.bytes.items = search rules in
-    let grown : c.push.new.self.items ≡ table.slots.items ++ slot ∷ [] = search rules in
+    let grown : c.push_reserved.new.self.items ≡ table.slots.items ++ slot ∷ [] = search rules in
     let longer : c.extend_from_slice.new.self.items ≡ table.bytes.items ++ c.args.text.now = search rules in
     let more = ap length longer ∙ length-append table.bytes.items c.args.text.now in
     record {
       texts = (λ i. texts_at (longer i) (grown i)) ∙ texts-push table.bytes.items c.args.text.now table.slots.items slot c.requires.table.within start (ap (λ n. n + length c.args.text.now) start);
       used = more;
       room = record {
-        of_texts = spare_left (vec_capacity table.slots) (vec_len table.slots) _ _ _ 1 _ _ c.in_ok-reserve.ensures.capacity c.push.ensures.capacity table.slots.ok.0 c.push.new.self.ok.0 (ap length grown ∙ length-append table.slots.items (slot ∷ []));
-        of_bytes = spare_left (vec_capacity table.bytes) (vec_len table.bytes) _ _ _ (length c.args.text.now) _ _ c.in_ok-reserve-2.ensures.capacity c.extend_from_slice.ensures.capacity table.bytes.ok.0 c.extend_from_slice.new.self.ok.0 more;
+        of_texts = spare_left (vec_capacity table.slots) (vec_len table.slots) _ _ _ 1 _ _ c.in_ok-reserve.ensures.capacity (omega (arith, c.push_reserved.ensures.capacity)) table.slots.ok.0 c.push_reserved.new.self.ok.0 (ap length grown ∙ length-append table.slots.items (slot ∷ []));
+        of_bytes = spare_left (vec_capacity table.bytes) (vec_len table.bytes) _ _ _ (length c.args.text.now) _ _ (omega arith) c.extend_from_slice.ensures.capacity table.bytes.ok.0 c.extend_from_slice.new.self.ok.0 more;
       };
     }
