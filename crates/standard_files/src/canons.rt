@@ -16,6 +16,7 @@ use value_forms::{Canon, CompareKind, bytes_of, canon_text, compares_days, initi
 use value_pool::{Id, MaybeId, Pool, PoolFault};
 
 /// Takes the canon of a value, and gives its id, `None` exactly where it has none.
+#[inline(always)]
 pub(crate) fn take_part(
     alloc: Global,
     pool: &mut Pool,
@@ -88,17 +89,16 @@ fn take_canon(
 }
 
 // Takes the canon of the value of a row in a field, which is not known, keeps it, and gives its id.
-#[inline(never)]
 fn take_new(
     alloc: Global,
     pool: &mut Pool,
     kinds: &[CompareKind],
     known: &mut Known,
     field: u8,
-    text: &Option<Id>,
+    text: MaybeId,
     row: &Row<'_>,
 ) -> Result<Option<Id>, PoolFault>
-    requires { IsKnownField pool.old.texts kinds.now known.old row.now field text.now }
+    requires { IsKnownField pool.old.texts kinds.now known.old row.now field text }
     ensures { TakesTexts pool.old pool.new (option_to_list (canon_at kinds.now row.now field)) (λ canon. IsIdOf pool.new.texts (canon_at kinds.now row.now field) canon × AreKnown pool.new.texts kinds.now known.new) result }
 {
     let kind = kinds[field as usize];
@@ -118,7 +118,7 @@ fn take_side(
     kinds: &[CompareKind],
     known: &mut Known,
     field: u8,
-    text: Option<Id>,
+    text: MaybeId,
     row: &Row<'_>,
 ) -> Result<IdValue, PoolFault>
     requires { IsKnownField pool.old.texts kinds.now known.old row.now field text }
@@ -128,10 +128,10 @@ fn take_side(
     if compares_days(kind) {
         return Ok(day_of(&row.value(field as usize)));
     }
-    if let Some(canon) = known.find(kind, field, &text, row) {
+    if let Some(canon) = known.find(kind, field, text, row) {
         return Ok(IdValue::Id(canon));
     }
-    let canon = take_new(alloc, pool, kinds, known, field, &text, row)?;
+    let canon = take_new(alloc, pool, kinds, known, field, text, row)?;
     Ok(side_by_id(canon))
 }
 
@@ -153,15 +153,7 @@ fn take_row(
     ensures { TakesTexts pool.old pool.new (canons_of_row kinds.now row.now) (λ _. GoesOn pool.new.texts sides.old.items sides.new.items (length kinds.now) (λ final. sides_of_row final kinds.now row.now) × AreKnown pool.new.texts kinds.now known.new) result }
 {
     for field in 0..kinds.len() {
-        let side = take_side(
-            alloc,
-            pool,
-            kinds,
-            known,
-            field as u8,
-            ids[field].get(),
-            row,
-        )?;
+        let side = take_side(alloc, pool, kinds, known, field as u8, ids[field], row)?;
         if sides.push(side).is_err() {
             return Err(PoolFault::NoMemory);
         }

@@ -121,13 +121,13 @@ impl Known {
         &self,
         kind: CompareKind,
         field: u8,
-        text: &Option<Id>,
+        text: MaybeId,
         row: &Row<'_>,
     ) -> Option<Id>
         requires { field < length row.now }
-        ensures { IfSome result (λ canon. (held : List (List ℕ)) (kinds : List Kind) → slice_index_or kinds field exact ≡ kind → IsIdOf held (standard_text (slice_index_or row.now field absent_value)) text.now → AreKnown held kinds self.now → IsIdOf held (canon_of kind (slice_index_or row.now field absent_value)) (Some canon)) }
+        ensures { IfSome result (λ canon. (held : List (List ℕ)) (kinds : List Kind) → slice_index_or kinds field exact ≡ kind → IsIdOf held (standard_text (slice_index_or row.now field absent_value)) text → AreKnown held kinds self.now → IsIdOf held (canon_of kind (slice_index_or row.now field absent_value)) (Some canon)) }
     {
-        match *text {
+        match text.get() {
             Some(text) if is_text_itself(kind) => Some(text),
             Some(text) => self.find_canon(field, text),
             None if is_text_itself(kind) => self.find_day(&row.value(field as usize)),
@@ -140,13 +140,13 @@ impl Known {
         &mut self,
         kind: CompareKind,
         field: u8,
-        text: &Option<Id>,
+        text: MaybeId,
         value: &ValueRef<'_>,
         canon: Id,
     )
-        ensures { (held : List (List ℕ)) (kinds : List Kind) → slice_index_or kinds field exact ≡ kind → IsIdOf held (standard_text (value_seen value.now)) text.now → IsIdOf held (canon_of kind (value_seen value.now)) (Some canon) → AreKnown held kinds self.old → AreKnown held kinds self.new }
+        ensures { (held : List (List ℕ)) (kinds : List Kind) → slice_index_or kinds field exact ≡ kind → IsIdOf held (standard_text (value_seen value.now)) text → IsIdOf held (canon_of kind (value_seen value.now)) (Some canon) → AreKnown held kinds self.old → AreKnown held kinds self.new }
     {
-        match *text {
+        match text.get() {
             Some(text) => keep_canon(&mut self.canons, field, text, canon),
             None if is_text_itself(kind) => keep_day(&mut self.days, value, canon),
             None => {}

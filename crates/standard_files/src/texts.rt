@@ -18,6 +18,7 @@ pub(crate) struct TextIds {
 }
 
 /// Takes a text.
+#[inline(always)]
 pub(crate) fn take_text(alloc: Global, pool: &mut Pool, text: &[u8]) -> Result<Id, PoolFault>
     ensures { TakesTexts pool.old pool.new (text.now ∷ []) (λ id. slice_get pool.new.texts id ≡ Some text.now) result }
 {

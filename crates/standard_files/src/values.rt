@@ -51,11 +51,12 @@ impl ValueTables {
         requires room { sum_by length rows.old.rows + length rows.old.row < 2 ^ 32 }
         ensures { IfOk result (AddsValue self.now sort text.now rows.old rows.new) }
     {
-        match sort {
-            TextSort::Name => add_text(rows, std_text_in(alloc, text, &self.names, room)?),
-            TextSort::Place => add_text(rows, std_text_in(alloc, text, &self.places, room)?),
-            TextSort::Date(form) => add_date(rows, std_date(text, form, &self.names)),
-        }
+        let tables = match sort {
+            TextSort::Name => &self.names,
+            TextSort::Place => &self.places,
+            TextSort::Date(form) => return add_date(rows, std_date(text, form, &self.names)),
+        };
+        add_text(rows, std_text_in(alloc, text, tables, room)?)
     }
 }
 

@@ -15,13 +15,13 @@ returns c =
     let kind = get_or kinds c.args.field exact in
     let v = value_seen c.value-value.result in
     let taken = c.in_ok-canon.ensures in
-    let of_text : IsIdOf pool.texts (standard_text v) c.args.text.now = subst (λ w. IsIdOf pool.texts (standard_text w) c.args.text.now) (sym c.value-value.ensures) c.requires.text in
+    let of_text : IsIdOf pool.texts (standard_text v) c.args.text = subst (λ w. IsIdOf pool.texts (standard_text w) c.args.text) (sym c.value-value.ensures) c.requires.text in
     let of_canon : IsIdOf new.texts (canon_of kind v) (Some c.in-Some.canon) = rw c.in-Some.is at taken.holds in
     record {
       limit = taken.limit;
       taken = search rules;
       holds = (
         search rules,
-        c.keep.ensures new.texts kinds refl (id-kept pool.texts new.texts (kept taken) (standard_text v) c.args.text.now of_text) of_canon (known-kept pool.texts new.texts (kept taken) kinds c.args.known.now c.requires.all),
+        c.keep.ensures new.texts kinds refl (id-kept pool.texts new.texts (kept taken) (standard_text v) c.args.text of_text) of_canon (known-kept pool.texts new.texts (kept taken) kinds c.args.known.now c.requires.all),
       );
     }

@@ -34,7 +34,7 @@ take_side-requires c =
       field = omega arith;
       within = omega (arith, c.requires.as_many);
       valid = c.requires.valid c.loop-field.field absent_value (omega (arith, c.requires.as_many));
-      text = rw c.get.ensures (ids-read c.loop-field.pool.texts row c.args.ids.now c.loop-field.field c.index-ids-field.result (omega (arith, c.requires.as_many)) c.index-ids-field.is c.loop-field.invariant.ids);
+      text = ids-read c.loop-field.pool.texts row c.args.ids.now c.loop-field.field c.index-ids-field.result (omega (arith, c.requires.as_many)) c.index-ids-field.is c.loop-field.invariant.ids;
       all = c.loop-field.invariant.known;
     }
 
