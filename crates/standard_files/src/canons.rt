@@ -53,6 +53,7 @@ fn side_by_id(canon: Option<Id>) -> IdValue
 }
 
 // Takes the initials of a word, and gives their id.
+#[inline(never)]
 fn take_initials(
     alloc: Global,
     pool: &mut Pool,

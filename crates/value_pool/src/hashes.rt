@@ -22,7 +22,8 @@ fn four_bytes_at(text: &[u8], at: usize) -> u32
     requires { at + 4 ≤ length text.now }
     ensures { result ≡ four_bytes_at text.now at }
 {
-    u32::from_le_bytes([text[at], text[at + 1], text[at + 2], text[at + 3]])
+    let four = &text[at..at + 4];
+    u32::from_le_bytes([four[0], four[1], four[2], four[3]])
 }
 
 fn eight_bytes_at(text: &[u8], at: usize) -> u64
