@@ -258,24 +258,15 @@ module _ (read : RowsRead) (header : Row) (width : 1 ≤ length header) (plain :
       ap (rows_under header) (read (header ∷ rows) (All-cons (λ row. 1 ≤ length row) header rows width (λ k d lt. omega (arith, all k d lt, width))) (plain rows))
       ∙ whole header rows all
 
-rule_plain : (rows : List Row) → HasNoMark (text_under rule_header rows)
-rule_plain rows = no_mark 112 _ (omega arith)
-
-links_plain : (rows : List Row) → HasNoMark (text_under links_header rows)
-links_plain rows = no_mark 105 _ (omega arith)
-
-prices_plain : (rows : List Row) → HasNoMark (text_under prices_header rows)
-prices_plain rows = no_mark 115 _ (omega arith)
-
 pub rule_again : RowsRead → (rares : List Bool) (cells : List RuleCell) → rows_under rule_header (records_in 44 (text_of_rule rares cells)) ≡ Ok (map (cell_fields rares) cells)
 rule_again read rares cells =
     ap (λ (t : List ℕ). rows_under rule_header (records_in 44 (row_text default_writer rule_header ++ t))) (sym (flat_map-map (row_text default_writer) (cell_fields rares) cells))
-    ∙ under_again read rule_header (omega arith) rule_plain (map (cell_fields rares) cells) (All-map (λ (r : Row). length r ≡ 8) (cell_fields rares) cells (λ k d lt. refl))
+    ∙ under_again read rule_header (omega arith) (λ rows. no_mark 112 _ (omega arith)) (map (cell_fields rares) cells) (All-map (λ (r : Row). length r ≡ 8) (cell_fields rares) cells (λ k d lt. refl))
 
 pub links_again : RowsRead → (a b : List Record) (links : List Candidate) → rows_under links_header (records_in 44 (text_of_links a b links)) ≡ Ok (map (link_fields a b) links)
 links_again read a b links =
     ap (λ (t : List ℕ). rows_under links_header (records_in 44 (row_text default_writer links_header ++ t))) (sym (flat_map-map (row_text default_writer) (link_fields a b) links))
-    ∙ under_again read links_header (omega arith) links_plain (map (link_fields a b) links) (All-map (λ (r : Row). length r ≡ 5) (link_fields a b) links (λ k d lt. refl))
+    ∙ under_again read links_header (omega arith) (λ rows. no_mark 105 _ (omega arith)) (map (link_fields a b) links) (All-map (λ (r : Row). length r ≡ 5) (link_fields a b) links (λ k d lt. refl))
 
 side_text : (side : List ℕ) (prices : List ℤ) (file : List Record) → flat_map (row_text default_writer) (side_rows side prices file) ≡ price_rows side prices file
 side_text side prices file = flat_map-map (row_text default_writer) (price_fields side) (filter is_priced (zip prices file))
@@ -292,7 +283,7 @@ prices_again read prices_a prices_b a b =
     ∙ ap (λ (t : List ℕ). t ++ flat_map (row_text default_writer) of_b) (side_text (codes "A") prices_a a)
     ∙ ap (λ (t : List ℕ). price_rows (codes "A") prices_a a ++ t) (side_text (codes "B") prices_b b) in
     ap (λ (t : List ℕ). rows_under prices_header (records_in 44 (row_text default_writer prices_header ++ t))) (sym text)
-    ∙ under_again read prices_header (omega arith) prices_plain (of_a ++ of_b)
+    ∙ under_again read prices_header (omega arith) (λ rows. no_mark 115 _ (omega arith)) (of_a ++ of_b)
     (All-append (λ (r : Row). length r ≡ 3) of_a of_b (side_width (codes "A") prices_a a) (side_width (codes "B") prices_b b))
 
 -- The rows of a text, one more.

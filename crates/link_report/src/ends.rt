@@ -70,6 +70,7 @@ fn line_end(alloc: Global, shape: &Shape, row: &PairRow) -> Result<LineEnd, NoMe
     requires { row.now.pattern < pattern_count_by (rare_of shape.now) }
     ensures of { IfOk result (λ end. end.of ≡ row.now) }
     ensures text { IfOk result (λ end. end.text.items ≡ pair_end (rare_of shape.now) row.now) }
+    ensures right { IfOk result (IsEnd (rare_of shape.now)) }
 {
     let letters = letters_of(alloc, shape, row.pattern)?;
     let mut text = Vec::new(alloc);
@@ -118,6 +119,26 @@ fn ends_by_pattern(alloc: Global, shape: &Shape) -> Result<Vec<LineEnd>, NoMemor
     Ok(ends)
 }
 
+// Makes a new end for a pair's pattern.
+#[inline(never)]
+fn replace_end(
+    ends: &mut Vec<LineEnd>,
+    alloc: Global,
+    shape: &Shape,
+    row: &PairRow,
+) -> Result<(), NoMemory>
+    requires pattern { row.now.pattern < pattern_count_by (rare_of shape.now) }
+    requires count { length ends.old.items ≡ pattern_count_by (rare_of shape.now) }
+    requires right { All (IsEnd (rare_of shape.now)) ends.old.items }
+    ensures count { length ends.new.items ≡ length ends.old.items }
+    ensures right { All (IsEnd (rare_of shape.now)) ends.new.items }
+    ensures end { OnOk result ((d : End) → (slice_index_or ends.new.items row.now.pattern d).text.items ≡ pair_end (rare_of shape.now) row.now) }
+{
+    let end = line_end(alloc, shape, row)?;
+    ends[usize::from(row.pattern)] = end;
+    Ok(())
+}
+
 // Makes the end of a pair's pattern that of the pair.
 fn renew(
     ends: &mut Vec<LineEnd>,
@@ -132,13 +153,10 @@ fn renew(
     ensures right { All (IsEnd (rare_of shape.now)) ends.new.items }
     ensures end { OnOk result ((d : End) → (slice_index_or ends.new.items row.now.pattern d).text.items ≡ pair_end (rare_of shape.now) row.now) }
 {
-    let at = usize::from(row.pattern);
-    if same_end(&ends[at].of, row) {
+    if same_end(&ends[usize::from(row.pattern)].of, row) {
         return Ok(());
     }
-    let end = line_end(alloc, shape, row)?;
-    ends[at] = end;
-    Ok(())
+    replace_end(ends, alloc, shape, row)
 }
 
 /// The ends of lines by comparison pattern, each as it was last written. Contracts see which fields may be rare.

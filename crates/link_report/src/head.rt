@@ -3,11 +3,11 @@ ghost use Rattle.std.specs.Prelude.{◌≡◌, ◌≤◌, ◌++◌, ◌∷◌, [
 ghost use Rattle.std.specs.Fmt.{signed_decimal};
 ghost use Rattle.std.specs.List.{concat};
 ghost use Rattle.link_base.specs.Rule.{HasBoundedSums};
-ghost use Rattle.link_report.specs.ReportText.{file_lines, level_line, level_lines, line, link_lines, pair_lines, report_head};
+ghost use Rattle.link_report.specs.ReportText.{level_line, line, link_lines, report_head};
 
 use crate::report::Report;
 use itoa::Buffer;
-use link_base::{Levels, NoMemory, StdFile};
+use link_base::{NoMemory, StdFile};
 use link_limits::PER_MILLION;
 
 // Appends a line of numbers.
@@ -59,48 +59,6 @@ fn push_total(text: &mut Vec<u8>, total: i64) -> Result<(), NoMemory>
     Ok(())
 }
 
-// Appends the lines of the files.
-fn push_files(text: &mut Vec<u8>, report: &Report, a: &StdFile, b: &StdFile) -> Result<(), NoMemory>
-    ensures { OnOk result (text.new.items ≡ text.old.items ++ concat (file_lines a.now b.now report.now)) }
-{
-    push_counts(text, b"rows", a.rows(), b.rows())?;
-    push_counts(
-        text,
-        b"unreadable",
-        report.unreadable_a,
-        report.unreadable_b,
-    )?;
-    Ok(())
-}
-
-// Appends the lines of the compared pairs.
-#[tactic(auto, using(crate::proofs::HeaderLemmas::seven_lines))]
-fn push_pairs(text: &mut Vec<u8>, report: &Report) -> Result<(), NoMemory>
-    ensures { OnOk result (text.new.items ≡ text.old.items ++ concat (pair_lines report.now)) }
-{
-    push_count(text, b"pairs", report.pairs)?;
-    push_count(text, b"link", report.link)?;
-    push_count(text, b"possible", report.possible)?;
-    push_count(text, b"nonlink", report.nonlink)?;
-    push_count(text, b"open", report.undecided)?;
-    push_count(text, b"entries", report.entries)?;
-    push_count(text, b"idle", report.idle)?;
-    Ok(())
-}
-
-// Appends the lines of the attained levels.
-fn push_levels(text: &mut Vec<u8>, levels: &Levels) -> Result<(), NoMemory>
-    requires { HasBoundedSums levels.now }
-    ensures { OnOk result (text.new.items ≡ text.old.items ++ concat (level_lines levels.now)) }
-{
-    let denominator = levels.denominator;
-    push_level(text, b"mu", levels.mu, denominator)?;
-    push_level(text, b"lambda", levels.lambda, denominator)?;
-    push_level(text, b"possible_m", levels.possible_m, denominator)?;
-    push_level(text, b"possible_u", levels.possible_u, denominator)?;
-    Ok(())
-}
-
 // Appends the lines of the links.
 fn push_links(text: &mut Vec<u8>, report: &Report) -> Result<(), NoMemory>
     ensures { OnOk result (text.new.items ≡ text.old.items ++ concat (link_lines report.now)) }
@@ -121,9 +79,25 @@ pub(crate) fn push_head(
     requires { HasBoundedSums report.now.levels }
     ensures { OnOk result (text.new.items ≡ text.old.items ++ report_head a.now b.now report.now) }
 {
-    push_files(text, report, a, b)?;
-    push_pairs(text, report)?;
-    push_levels(text, &report.levels)?;
+    let levels = &report.levels;
+    push_counts(text, b"rows", a.rows(), b.rows())?;
+    push_counts(
+        text,
+        b"unreadable",
+        report.unreadable_a,
+        report.unreadable_b,
+    )?;
+    push_count(text, b"pairs", report.pairs)?;
+    push_count(text, b"link", report.link)?;
+    push_count(text, b"possible", report.possible)?;
+    push_count(text, b"nonlink", report.nonlink)?;
+    push_count(text, b"open", report.undecided)?;
+    push_count(text, b"entries", report.entries)?;
+    push_count(text, b"idle", report.idle)?;
+    push_level(text, b"mu", levels.mu, levels.denominator)?;
+    push_level(text, b"lambda", levels.lambda, levels.denominator)?;
+    push_level(text, b"possible_m", levels.possible_m, levels.denominator)?;
+    push_level(text, b"possible_u", levels.possible_u, levels.denominator)?;
     push_links(text, report)?;
     Ok(())
 }

@@ -121,6 +121,7 @@ pub fn usual_id_bytes(a: &IdFields<'_>, b: &IdFields<'_>) -> usize
 }
 
 /// Appends two fields, and the comma between them.
+#[inline(always)]
 pub(crate) fn push_two(text: &mut Vec<u8>, first: &[u8], second: &[u8]) -> Result<(), NoMemory>
     ensures { OnOk result (text.new.items ≡ text.old.items ++ two_fields first.now second.now) }
 {
@@ -131,6 +132,7 @@ pub(crate) fn push_two(text: &mut Vec<u8>, first: &[u8], second: &[u8]) -> Resul
 }
 
 /// Appends the ids of a pair, the first two fields of a line.
+#[inline(always)]
 pub(crate) fn push_ids(
     text: &mut Vec<u8>,
     at: PairAt,

@@ -10,15 +10,6 @@ use link_base::{NoMemory, Text};
 use std::alloc::Global;
 use std::marker::Model;
 
-// Appends a line of two fields.
-fn push_line(text: &mut Vec<u8>, first: &[u8], second: &[u8]) -> Result<(), NoMemory>
-    ensures { OnOk result (text.new.items ≡ text.old.items ++ (two_fields first.now second.now ++ 10 ∷ [])) }
-{
-    push_two(text, first, second)?;
-    text.push(b'\n')?;
-    Ok(())
-}
-
 // Appends a line for each of these records of B behind the field of a record of A.
 fn push_lines(
     text: &mut Vec<u8>,
@@ -30,7 +21,8 @@ fn push_lines(
     ensures { OnOk result (text.new.items ≡ text.old.items ++ flat_map (λ j. two_fields first.now (field_text default_writer (id_at b.now j)) ++ 10 ∷ []) partners.now) }
 {
     for partner in partners {
-        push_line(text, first, b.field(*partner))?;
+        push_two(text, first, b.field(*partner))?;
+        text.push(b'\n')?;
     }
     Ok(())
 }

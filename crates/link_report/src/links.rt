@@ -35,6 +35,7 @@ pub(crate) struct LinkEnd {
 fn link_end(alloc: Global, link: Candidate) -> Result<LinkEnd, NoMemory>
     ensures of { IfOk result (λ end. end.of ≡ link) }
     ensures text { IfOk result (λ end. end.text.items ≡ end_of_link link) }
+    ensures right { IfOk result IsLinkEnd }
 {
     let mut weight = Buffer::new();
     let mut value = Buffer::new();

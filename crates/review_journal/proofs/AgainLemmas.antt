@@ -82,6 +82,7 @@ pub record IsReadable (a b : List Record) (done : List Entry) (e : Entry) : Type
 
 pub entry_again : (a b : List Record) (done : List Entry) (e : Entry) → IsReadable a b done e
     → entry_in a b done (length done + 1) (written_in true (entry_fields a b (length done, e))) ≡ Ok e
+unfolding entry_in
 entry_again a b done e is =
     rw (same_bytes (decimal (length done + 1)), is.day, is.not_back, signed_again (length done + 1) e.reviewer is.reviewer, is.of_a, is.of_b, verdict_again e.verdict, step_again e.step, is.fits)
 

@@ -3,7 +3,7 @@ use Rattle.std.proofs.Common.{◌≡◌, ◌<◌, ◌≤◌, ◌+◌, ◌++◌, 
 use Rattle.std.specs.List.{enumerate_from, flat_map, position_or_len}
 use Rattle.std.proofs.lemmas.List.{append_assoc, append-nil, drop_all, drop_more}
 use Rattle.std.proofs.lemmas.List.Elements.{All-push, All-nil, All-tail}
-use Rattle.link_base.specs.Words.{and_then, Refuses, IsDay, position_of_id, Record}
+use Rattle.link_base.specs.Words.{and_then, IsDay, position_of_id, Record}
 use Rattle.link_base.specs.declared.fault.Fault.{Fault}
 use Rattle.std.proofs.lemmas.Bool.Decides.{nat_tests}
 use Rattle.std.proofs.lemmas.Option.{cond_some}
@@ -41,10 +41,6 @@ lines_all f xs i text whole past told =
 -- what held of those before holds with one more
 pub all_more : {E : Type 0} (P : E → Type 0) (done new : List E) (e : E) → All P done → P e → new ≡ done ++ e ∷ [] → All P new
 all_more P done new e all here is_new = subst (All P) (sym is_new) (All-push P done e all here)
-
--- a fault after a step that was taken
-pub refused_after : {A B : Type 0} (x : Result A Fault) (next : A → Result B Fault) (a : A) (f : Fault) → x ≡ Ok a → Refuses (next a) f → Refuses (and_then x next) f
-refused_after {A = A} x next a f told h = subst (λ (r : Result A Fault). Refuses (and_then r next) f) (sym told) h
 
 -- What is read of a journal file is a journal over its two files.
 
@@ -99,6 +95,7 @@ module _ (a b : List Record) where
 
   -- a new verdict that is read names records
   verdict_names : (number : ℕ) (fields : List (List ℕ)) (v : NewVerdict) → verdict_in a b number fields ≡ Ok v → NamesRecords (length a) (length b) v
+  unfolding verdict_in
   verdict_names number fields v e =
       let pair = went_on (pair_in role.Verdicts number (slice_index_or fields 0 []) (slice_index_or fields 1 []) a b) _ v e in
       let word = went_on (or_fault (fault.BadVerdict role.Verdicts number) (verdict_named (slice_index_or fields 2 []))) _ v pair.rest in
@@ -136,6 +133,7 @@ pub record IsNextOver (a b : List Record) (done : List Entry) (e : Entry) : Type
 
 module _ (a b : List Record) where
   read_entry : (done : List Entry) (number : ℕ) (w : Written) (e : Entry) → IsFieldText w.reviewer → entry_in a b done number w ≡ Ok e → IsNextOver a b done e
+  unfolding entry_in
   read_entry done number w e text told =
       let numbered_is = went_on (numbered number w.number) _ e told in
       let dated_is = went_on (dated done number w.date) _ e numbered_is.rest in
@@ -197,6 +195,7 @@ module _ (a b : List Record) where
 -- a row that names no step gives a verdict that stands alone
 entry_single : (a b : List Record) (done : List Entry) (number : ℕ) (fields : List (List ℕ)) (e : Entry)
     → entry_in a b done number (written_in false fields) ≡ Ok e → e.step ≡ Single
+unfolding entry_in
 entry_single a b done number fields e told =
     let w : Written = written_in false fields in
     let numbered_is = went_on (numbered number w.number) _ e told in

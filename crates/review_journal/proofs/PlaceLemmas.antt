@@ -1,5 +1,5 @@
 -- What a journal keeps, of one entry more.
-use Rattle.std.proofs.Common.{◌≡◌, ◌<◌, ◌+◌, ◌∷◌, ◌++◌, ◌∙◌, ℕ, ℤ, List, [], AllPairs, length, get_or, slice_get, Some, Bool, true, false, nat_lt, arith, ap, refl, subst, length-append, append_assoc, ◌≤ℤ◌, int_le, Option, None, sym, if◌then◌else◌, option_and_then, ◌≤◌, inl, inr, nat_eq, ◌&&◌, Err, suc, All, option_map, reverse, Equal, find}
+use Rattle.std.proofs.Common.{◌≡◌, ◌<◌, ◌+◌, ◌∷◌, ◌++◌, ◌∙◌, ℕ, ℤ, List, [], AllPairs, length, get_or, slice_get, Some, Bool, true, false, nat_lt, arith, ap, refl, subst, length-append, append_assoc, ◌≤ℤ◌, int_le, Option, None, sym, if◌then◌else◌, option_and_then, ◌≤◌, inl, inr, nat_eq, ◌&&◌, Err, suc, All, option_map, reverse, Ordering, Equal, find}
 use Rattle.std.proofs.lemmas.Bool.{and_parts, cases_lt}
 use Rattle.std.proofs.lemmas.Bool.Decides.{nat_tests}
 use Rattle.std.proofs.lemmas.Int.{ints}
@@ -18,7 +18,7 @@ use Rattle.std.proofs.Math.Seq.{get_or-append_seam}
 use Rattle.std.specs.Map.{lookup}
 use Rattle.std.specs.Ordering.{is_eq, ordering_index}
 use Rattle.std.specs.BTreeMap.{is_at, Updates}
-use Rattle.review_journal.specs.Places.{IsIndexed, pair_cmp, place_of_pair, Places, order_of}
+use Rattle.review_journal.specs.Places.{IsIndexed, pair_cmp, place_of_pair, Places}
 use Rattle.std.specs.List.Sorted.{IsBinarySearchResult, IsNonDecreasingBy}
 use Rattle.link_base.specs.declared.rule.PairAt.{PairAt}
 use Rattle.review_journal.specs.declared.batch.NewVerdict.{NewVerdict}
@@ -88,13 +88,13 @@ still_found : (es : List Entry) (e : Entry) (o : Option ℕ) → ((q : ℕ) → 
 still_found es e None within = refl
 still_found es e (Some q) within = get-push es e q (within q refl)
 
--- the order tells the pair of an entry from others
-tested : (e : Entry) (a b : ℕ) → is_eq (pair_cmp (e.a, e.b) (a, b)) ≡ is_on a b e
-tested e a b = grind (arith, nat_tests)
+-- the order tells a pair from others
+tested : (x y a b : ℕ) → is_eq (pair_cmp (x, y) (a, b)) ≡ (nat_eq x a && nat_eq y b)
+tested x y a b = grind (arith, nat_tests)
 
 module _ (old new : Places) (es : List Entry) (e : Entry) (place : ℕ) (indexed : IsIndexed old es) (at_end : place ≡ length es) (updates : Updates pair_cmp old new (e.a, e.b) (Some place)) where
   place_now : (a b : ℕ) (test : Bool) → is_on a b e ≡ test → place_of_pair new a b ≡ (if test then Some place else place_of_pair old a b)
-  place_now a b test is = updates.0 (a, b) ∙ ap (λ t. if t then Some place else place_of_pair old a b) (tested e a b ∙ is)
+  place_now a b test is = updates.0 (a, b) ∙ ap (λ t. if t then Some place else place_of_pair old a b) (tested e.a e.b a b ∙ is)
 
   found : (a b : ℕ) (test : Bool) → is_on a b e ≡ test → option_and_then (slice_get (es ++ e ∷ [])) (place_of_pair new a b) ≡ (if test then Some e else last_on es a b)
   found a b true is =
@@ -131,11 +131,14 @@ indexed-same old new es is indexed =
 
 -- A binary search in a rising list of pairs finds what stands there.
 
+abbrev order_of : PairAt → NewVerdict → Ordering
+order_of at v = pair_cmp (at.a, at.b) (v.a, v.b)
+
 abbrev is_pair_of : NewVerdict → PairAt → Bool
 is_pair_of v at = nat_eq at.a v.a && nat_eq at.b v.b
 
 same_place : (at : PairAt) (v : NewVerdict) → is_eq (order_of at v) ≡ is_pair_of v at
-same_place at v = grind (arith, nat_tests)
+same_place at v = tested at.a at.b v.a v.b
 
 rise : (x y : PairAt) (v : NewVerdict) → IsPairBefore x y → ordering_index (order_of x v) ≤ ordering_index (order_of y v)
 rise x y v before = grind (arith, nat_tests)

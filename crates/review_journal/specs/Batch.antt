@@ -17,7 +17,7 @@ abbrev pub verdicts_wanted : Wanted
 verdicts_wanted = record { id = None; columns = codes "id_a" ∷ codes "id_b" ∷ codes "verdict" ∷ []; most = MOST_ROWS }
 
 -- the new verdict of a row: its ids are tested first
-abbrev pub verdict_in : List Record → List Record → ℕ → List (List ℕ) → Result NewVerdict Fault
+unfoldable pub verdict_in : List Record → List Record → ℕ → List (List ℕ) → Result NewVerdict Fault
 verdict_in a b number fields =
     and_then (pair_in role.Verdicts number (slice_index_or fields 0 []) (slice_index_or fields 1 []) a b) (λ at.
     and_then (or_fault (fault.BadVerdict role.Verdicts number) (verdict_named (slice_index_or fields 2 []))) (λ verdict.

@@ -1,13 +1,11 @@
--- Machinery of the journal: where the last entry on each pair stands. No public clause names it; the invariant of `Journal`
--- does.
+-- Machinery of the journal: where the last entry on each pair stands, and the order by which pairs are sought. No public clause names it;
+-- the invariant of `Journal` does.
 use Rattle.std.specs.Prelude.{◌≡◌, ◌<◌, ℕ, List, length, Option, Some, option_and_then, slice_get}
 use Rattle.std.specs.Ordering.{nat_cmp, ordering_then}
 use Rattle.std.specs.declared.cmp.Ordering.{Ordering}
 use Rattle.std.specs.BTreeMap.{BTreeMap, get}
 use Rattle.review_journal.specs.Verdict.{last_on}
 use Rattle.review_journal.specs.declared.entry.Entry.{Entry}
-use Rattle.link_base.specs.declared.rule.PairAt.{PairAt}
-use Rattle.review_journal.specs.declared.batch.NewVerdict.{NewVerdict}
 
 -- from pairs to places in a list of entries
 abbrev pub Places : Type 0
@@ -25,9 +23,3 @@ place_of_pair places a b = get pair_cmp places (a, b)
 pub record IsIndexed (places : Places) (entries : List Entry) : Type 0 where
   pub found : (a b : ℕ) → option_and_then (slice_get entries) (place_of_pair places a b) ≡ last_on entries a b
   pub within : (a b place : ℕ) → place_of_pair places a b ≡ Some place → place < length entries
-
--- Machinery of the search for a pair in a rising list: the order of pairs by their positions. No public clause names it.
-
--- how a pair stands to that of a new verdict
-abbrev pub order_of : PairAt → NewVerdict → Ordering
-order_of at v = ordering_then (nat_cmp at.a v.a) (nat_cmp at.b v.b)

@@ -42,7 +42,7 @@ abbrev pub fitting : List Entry → ℕ → Entry → Result Entry Fault
 fitting done number e = unless (fits_after done e) (fault.BadStep number) e
 
 -- the entry of a row: its number, date, reviewer, ids, verdict and step are tested in this order
-abbrev pub entry_in : List Record → List Record → List Entry → ℕ → Written → Result Entry Fault
+unfoldable pub entry_in : List Record → List Record → List Entry → ℕ → Written → Result Entry Fault
 entry_in a b done number w =
     and_then (numbered number w.number) (λ text.
     and_then (dated done number w.date) (λ date.

@@ -35,10 +35,7 @@ fn date_of(journal: &Journal, row: u32, text: &[u8]) -> Result<i32, Fault>
     ensures day { IfOk result IsDay }
     ensures not_back { IfOk result (λ date. is_not_before journal.now date ≡ true) }
 {
-    let date = match read_iso(text) {
-        Some(date) => date,
-        None => return Err(Fault::BadDate { row }),
-    };
+    let date = read_iso(text).ok_or(Fault::BadDate { row })?;
     if !journal.is_not_before(date) {
         let role = FileRole::Journal;
         return Err(Fault::DateBack { role, row });
@@ -71,6 +68,7 @@ fn fitting_entry(journal: &Journal, row: u32, entry: Entry) -> Result<Entry, Fau
 }
 
 // The entry of a row after the entries before.
+#[tactic(auto, unfolding(crate::specs::Reading::entry_in))]
 pub(crate) fn entry_of(
     alloc: Global,
     journal: &Journal,
@@ -84,30 +82,12 @@ pub(crate) fn entry_of(
     ensures follows { IfOk result (CanFollow journal.now) }
     ensures within { IfOk result (IsWithinFiles (length a.now) (length b.now)) }
 {
-    match test_number(number, row.number) {
-        Ok(()) => {}
-        Err(fault) => return Err(fault),
-    }
-    let date = match date_of(journal, number, row.date) {
-        Ok(date) => date,
-        Err(fault) => return Err(fault),
-    };
-    match test_reviewer(number, row.reviewer) {
-        Ok(()) => {}
-        Err(fault) => return Err(fault),
-    }
-    let pair = match known_pair(alloc, FileRole::Journal, number, row.id_a, row.id_b, a, b) {
-        Ok(pair) => pair,
-        Err(fault) => return Err(fault),
-    };
-    let verdict = match verdict_of(FileRole::Journal, number, row.verdict) {
-        Ok(verdict) => verdict,
-        Err(fault) => return Err(fault),
-    };
-    let step = match step_of(number, row.step) {
-        Ok(step) => step,
-        Err(fault) => return Err(fault),
-    };
+    test_number(number, row.number)?;
+    let date = date_of(journal, number, row.date)?;
+    test_reviewer(number, row.reviewer)?;
+    let pair = known_pair(alloc, FileRole::Journal, number, row.id_a, row.id_b, a, b)?;
+    let verdict = verdict_of(FileRole::Journal, number, row.verdict)?;
+    let step = step_of(number, row.step)?;
     let entry = Entry {
         date,
         reviewer: Text::new(alloc, row.reviewer)?,

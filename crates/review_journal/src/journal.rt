@@ -200,22 +200,15 @@ impl Journal {
     {
         for row in rows {
             let confirming = self.confirms(reviewer.as_bytes(), row.a, row.b, row.verdict);
-            let name = match Text::new(alloc, reviewer.as_bytes()) {
-                Ok(name) => name,
-                Err(NoMemory) => return Err(NoMemory),
-            };
             let entry = Entry {
                 date,
-                reviewer: name,
+                reviewer: Text::new(alloc, reviewer.as_bytes())?,
                 step: step_by(double, row.verdict, confirming),
                 a: row.a,
                 b: row.b,
                 verdict: row.verdict,
             };
-            match self.push(entry) {
-                Ok(()) => {}
-                Err(NoMemory) => return Err(NoMemory),
-            }
+            self.push(entry)?;
         }
         Ok(())
     }
@@ -238,15 +231,11 @@ impl Journal {
         ensures answer { IsAdded (added double date reviewer.now possible.now self.old batch.now) self.old self.new result }
     {
         let rows = batch.rows();
-        match self.batch_fault(rows, date, possible) {
-            Some(fault) => return Err(fault),
-            None => {}
+        if let Some(fault) = self.batch_fault(rows, date, possible) {
+            return Err(fault);
         }
         let entries = self.entries.len();
-        let places = match self.places.clone() {
-            Ok(places) => places,
-            Err(_) => return Err(Fault::NoMemory),
-        };
+        let places = self.places.clone()?;
         match self.push_verdicts(alloc, rows, date, reviewer, double) {
             Ok(()) => return Ok(()),
             Err(NoMemory) => {

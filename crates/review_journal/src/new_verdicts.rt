@@ -20,41 +20,29 @@ fn layout(alloc: Global) -> Result<Layout, NoMemory>
 }
 
 // The new verdict of the row at a position.
+#[tactic(auto, unfolding(crate::specs::Batch::verdict_in))]
 fn verdict_at(
     alloc: Global,
-    table: &Table,
+    rows: &Table,
     at: u32,
     a: &StdFile,
     b: &StdFile,
 ) -> Result<NewVerdict, Fault>
-    requires within { at < length table.now }
-    requires width { length (slice_index_or table.now at no_row).fields ≡ 3 }
-    requires few { length table.now ≤ MOST_ROWS }
-    ensures answer { IsAnswer (verdict_in a.now b.now (at + 1) (slice_index_or table.now at no_row).fields) result }
+    requires within { at < length rows.now }
+    requires width { length (slice_index_or rows.now at no_row).fields ≡ 3 }
+    requires few { length rows.now ≤ MOST_ROWS }
+    ensures answer { IsAnswer (verdict_in a.now b.now (at + 1) (slice_index_or rows.now at no_row).fields) result }
     ensures placed { IfOk result (NamesRecords (length a.now) (length b.now)) }
 {
     let row = at + 1;
     let role = FileRole::Verdicts;
-    let pair = match known_pair(
-        alloc,
-        role,
-        row,
-        table.field(at, 0),
-        table.field(at, 1),
-        a,
-        b,
-    ) {
-        Ok(pair) => pair,
-        Err(fault) => return Err(fault),
-    };
-    match verdict_of(role, row, table.field(at, 2)) {
-        Ok(verdict) => Ok(NewVerdict {
-            a: pair.a,
-            b: pair.b,
-            verdict,
-        }),
-        Err(fault) => Err(fault),
-    }
+    let pair = known_pair(alloc, role, row, rows.field(at, 0), rows.field(at, 1), a, b)?;
+    let verdict = verdict_of(role, row, rows.field(at, 2))?;
+    Ok(NewVerdict {
+        a: pair.a,
+        b: pair.b,
+        verdict,
+    })
 }
 
 // The new verdicts of the rows of a table.

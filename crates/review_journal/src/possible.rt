@@ -2,14 +2,14 @@
 ghost use Rattle.std.specs.Prelude.{◌≡◌, AllPairs, not, position};
 ghost use Rattle.link_base.specs.Rule.{IsPairBefore};
 ghost use Rattle.review_journal.specs.Batch.{is_among};
-ghost use Rattle.review_journal.specs.Places.{order_of};
+ghost use Rattle.review_journal.specs.Places.{pair_cmp};
 
 use crate::batch::NewVerdict;
 use link_base::PairAt;
 use std::cmp::Ordering;
 
 fn order(at: &PairAt, row: NewVerdict) -> Ordering
-    ensures { result ≡ order_of at.now row }
+    ensures { result ≡ pair_cmp (at.now.a, at.now.b) (row.a, row.b) }
 {
     (at.a, at.b).cmp(&(row.a, row.b))
 }

@@ -16,25 +16,24 @@ use link_base::{Fault, FileRole, NoMemory, StdFile};
 use link_limits::MOST_ENTRIES;
 use std::alloc::Global;
 
+// The columns of a journal of the second version.
+pub(crate) const COLUMNS: [&[u8]; 7] = [
+    b"number",
+    b"date",
+    b"reviewer",
+    b"step",
+    b"id_a",
+    b"id_b",
+    b"verdict",
+];
+
 // What is wanted of a journal of a version.
 fn layout(alloc: Global, second: bool) -> Result<Layout, NoMemory>
     ensures wanted { IfOk result (λ layout. wanted_of layout ≡ journal_wanted second) }
     ensures delimiter { IfOk result (λ layout. layout.delimiter ≡ 44) }
 {
     if second {
-        return Layout::of(
-            alloc,
-            &[
-                b"number",
-                b"date",
-                b"reviewer",
-                b"step",
-                b"id_a",
-                b"id_b",
-                b"verdict",
-            ],
-            MOST_ENTRIES,
-        );
+        return Layout::of(alloc, &COLUMNS, MOST_ENTRIES);
     }
     Layout::of(
         alloc,

@@ -7,6 +7,7 @@ ghost use Rattle.review_journal.specs.Reading.{entry_line, fields_with, text_of_
 
 use crate::entry::Entry;
 use crate::journal::Journal;
+use crate::reading::COLUMNS;
 use crate::words::{word_of_step, word_of_verdict};
 use csv_rows::push_row;
 use itoa::Buffer;
@@ -71,18 +72,7 @@ pub fn journal_text(
 {
     let entries = journal.entries();
     let mut text = Vec::new(alloc);
-    push_row(
-        &mut text,
-        &[
-            b"number",
-            b"date",
-            b"reviewer",
-            b"step",
-            b"id_a",
-            b"id_b",
-            b"verdict",
-        ],
-    )?;
+    push_row(&mut text, &COLUMNS)?;
     for at in 0..entries.len() {
         push_entry(&mut text, at as u32, &entries[at], a, b)?;
     }

@@ -4,17 +4,11 @@ ghost use Rattle.std.specs.List.Sorted.{IsBinarySearchResult, IsSearchInRange};
 ghost use Rattle.standardise.specs.Names.{text_cmp, word_for, replaced, spaced_words, words};
 
 use crate::outline::Outline;
+use crate::word_set::order;
 use crate::words::next_word;
 use link_base::{NoMemory, WordPair, WordPairs};
 use std::alloc::Global;
-use std::cmp::Ordering;
 use std::marker::Model;
-
-fn order(pair: &WordPair, word: &[u8]) -> Ordering
-    ensures { result ≡ text_cmp pair.now.from word.now }
-{
-    pair.from.bytes().cmp(word)
-}
 
 // Where a word stands in pairs, or where it would stand.
 #[inline(never)]
@@ -22,7 +16,7 @@ fn place_in(pairs: &[WordPair], word: &[u8]) -> Result<usize, usize>
     ensures bound { IsSearchInRange result (length pairs.now) }
     ensures place { IsBinarySearchResult (λ p. text_cmp p.from word.now) pairs.now result }
 {
-    pairs.binary_search_by(|pair| order(pair, word))
+    pairs.binary_search_by(|pair| order(&pair.from, word))
 }
 
 /// Pairs of words, which contracts see as the list of them, and the outline of the words that are replaced.

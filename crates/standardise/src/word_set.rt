@@ -3,7 +3,7 @@ ghost use Rattle.std.specs.Prelude.{◌≡◌, IfOk, length};
 ghost use Rattle.std.specs.List.Sorted.{IsBinarySearchResult, IsSearchInRange};
 ghost use Rattle.link_texts.specs.Texts.{stands_among};
 ghost use Rattle.standardise.specs.Names.{text_cmp};
-ghost use Rattle.standardise.specs.Kept.{AreWithin, IsOrdered};
+ghost use Rattle.standardise.specs.Kept.{IsOrdered};
 
 use crate::outline::Outline;
 use link_base::{NoMemory, Text};
@@ -36,12 +36,19 @@ impl WordSet {
     pub(crate) fn new(alloc: Global, texts: &[Text]) -> Result<WordSet, NoMemory>
         ensures { IfOk result (λ set. set ≡ texts.now) }
     {
-        let ordered = in_order(copied(alloc, texts)?);
-        let texts = copied(alloc, texts)?;
-        let outline = outline_of(&texts);
+        let mut copies = Vec::new(alloc);
+        let mut ordered = Vec::new(alloc);
+        let mut outline = Outline::none();
+        for text in texts {
+            let copy = text.copy(alloc)?;
+            copies.push(copy)?;
+            let other = text.copy(alloc)?;
+            ordered.push(other)?;
+            outline.add(text.bytes());
+        }
         Ok(WordSet {
-            texts,
-            ordered,
+            texts: copies,
+            ordered: in_order(ordered),
             outline,
         })
     }
@@ -61,7 +68,7 @@ impl WordSet {
     }
 }
 
-fn order(text: &Text, other: &[u8]) -> Ordering
+pub(crate) fn order(text: &Text, other: &[u8]) -> Ordering
     ensures { result ≡ text_cmp text.now other.now }
 {
     text.bytes().cmp(other)
@@ -74,29 +81,6 @@ fn place_in(texts: &[Text], text: &[u8]) -> Result<usize, usize>
     ensures place { IsBinarySearchResult (λ t. text_cmp t text.now) texts.now result }
 {
     texts.binary_search_by(|held| order(held, text))
-}
-
-// The same texts.
-fn copied(alloc: Global, texts: &[Text]) -> Result<Vec<Text>, NoMemory>
-    ensures { IfOk result (λ v. v.items ≡ texts.now) }
-{
-    let mut out = Vec::new(alloc);
-    for text in texts {
-        let text = text.copy(alloc)?;
-        out.push(text)?;
-    }
-    Ok(out)
-}
-
-// The outline of these texts.
-fn outline_of(texts: &[Text]) -> Outline
-    ensures { AreWithin result (λ t. t) texts.now }
-{
-    let mut outline = Outline::none();
-    for text in texts {
-        outline.add(text.bytes());
-    }
-    outline
 }
 
 // The texts in the order of their bytes.

@@ -311,8 +311,8 @@ bytes-on [] s f = refl
 bytes-on (c ∷ cs) s f = one_more c cs s f (c == 32) refl (λ s f. bytes-on cs s f)
 
 -- byte by byte stand the first characters of the words
-pub initials-bytes : (text : List ℕ) → IsUtf8 text → initials_from text true false ≡ initials_of text
-initials-bytes text utf8 =
+pub initials_bytes : (text : List ℕ) → IsUtf8 text → initials_from text true false ≡ initials_of text
+initials_bytes text utf8 =
     ap (λ (t : List ℕ). initials_from t true false) (sym (encodes-chars text utf8))
     ∙ bytes-on (chars text) true false
     ∙ ap encode_utf8_all (sym (firsts-words (chars text)))

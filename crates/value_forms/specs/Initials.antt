@@ -1,5 +1,4 @@
--- The initials of a text: the first character of each of its words, joined. `initials_text` carries them (clause `text`), and
--- `same_initials` compares two texts by them.
+-- The initials of a text: the first character of each of its words, joined. `initials_text` carries them (clause `text`).
 use Rattle.std.specs.Prelude.{ℕ, List, [], ◌∷◌, ◌++◌, ◌==◌, if◌then◌else◌, take, chars, encode_utf8_all, drop, flat_map}
 
 -- The words of a text: the longest runs of its characters without a space. Initials are defined by them (`initials_text`), and

@@ -12,6 +12,6 @@ mod written;
 pub use canons::{Canon, CanonText, CompareKind, End, bytes_of, canon_text, compares_days};
 pub use days::{Civil, civil_of, day_of, day_read_again, day_text, read_iso};
 pub use first::first_chars;
-pub use initials::{initials_text, same_initials};
+pub use initials::initials_text;
 pub use passes::{Part, Pass, PassList};
 pub use written::read_date;

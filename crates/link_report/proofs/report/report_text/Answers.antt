@@ -1,5 +1,4 @@
-use Rattle.std.proofs.Common.{◌≡◌, ◌∙◌, ◌++◌, List, ap, arith, length, take, flat_map, take_all}
-use Rattle.link_report.specs.declared.report.Dropped.{Dropped}
+use Rattle.std.proofs.Common.{◌∙◌, ap, arith, length, take_all}
 use Rattle.link_report.specs.ReportText.{dropped_row, report_head}
 use Rattle.link_report.proofs.HeaderLemmas.{rows_more}
 use Rattle.link_report.proofs.report.report_text.Goals as goal
@@ -15,8 +14,4 @@ loop-dropped-preserved c =
 
 pub returns : goal.returns
 returns c =
-    let a = c.args.a.now in
-    let b = c.args.b.now in
-    let report = c.args.report.now in
-    let all : take c.loop-dropped.dropped-index report.dropped.items ≡ report.dropped.items = take_all c.loop-dropped.dropped-index report.dropped.items (omega (arith, ap length c.deref-dropped-items.ensures.value)) in
-    c.of.ensures ∙ c.loop-dropped.invariant ∙ ap (λ (dropped : List Dropped). report_head a b report ++ flat_map (dropped_row a b) dropped) all
+    c.of.ensures ∙ (rw (take_all c.loop-dropped.dropped-index c.args.report.now.dropped.items (omega (arith, ap length c.deref-dropped-items.ensures.value))) at c.loop-dropped.invariant)

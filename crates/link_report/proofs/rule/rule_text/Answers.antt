@@ -1,4 +1,4 @@
-use Rattle.std.proofs.Common.{◌≡◌, ◌∙◌, ap, arith, take, take_all}
+use Rattle.std.proofs.Common.{◌∙◌, ap, arith, take_all}
 use Rattle.csv.specs.Writing.{default_writer, row_text}
 use Rattle.link_report.specs.LinksText.{cell_row, rule_header, text_of_rule}
 use Rattle.link_report.proofs.HeaderLemmas.{rows_more}
@@ -11,6 +11,4 @@ loop-cell-preserved c =
 
 pub returns : goal.returns
 returns c =
-    let cells = c.cells-cell-items.result.now in
-    let all : take c.loop-cell.cell-index cells ≡ cells = take_all c.loop-cell.cell-index cells c.loop-cell-test.false in
-    c.of.ensures ∙ c.loop-cell.invariant ∙ ap (text_of_rule (rare_of c.args.shape.now)) (all ∙ c.cells-cell-items.ensures.all)
+    c.of.ensures ∙ (rw (take_all c.loop-cell.cell-index c.cells-cell-items.result.now c.loop-cell-test.false) at c.loop-cell.invariant) ∙ ap (text_of_rule (rare_of c.args.shape.now)) c.cells-cell-items.ensures.all
