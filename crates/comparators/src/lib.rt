@@ -7,6 +7,6 @@ mod laws;
 mod tables;
 
 pub use comparator::Comparator;
-pub use ids::{FieldById, IdValue};
+pub use ids::{FieldById, IdValue, SameId};
 pub use laws::{same_outcomes, value_laws};
 pub use tables::IdTable;

@@ -1,12 +1,13 @@
 -- A row whose bytes together are ASCII and not too long.
-use Rattle.std.proofs.Common.{◌≡◌, ◌-◌, ◌∷◌, ℕ, zero, suc, List, [], length, get_or, take, drop, None, ap, arith, nat_lt, refl, not, ◌≤◌, ◌<◌, ◌+◌, ◌*◌, ◌++◌, ◌∙◌, Bool, true, false, Some, Ok, Err, sym, length-drop, length-take}
+use Rattle.std.proofs.Common.{◌≡◌, ◌-◌, ◌∷◌, ℕ, zero, suc, List, [], length, get_or, take, drop, None, ap, arith, nat_lt, refl, not, ◌≤◌, ◌<◌, ◌+◌, ◌*◌, ◌++◌, ◌∙◌, Bool, true, false, Some, Ok, Err, sym, length-drop, length-take, inl, inr, min}
 use Rattle.std.specs.Str.{is_utf8}
 use Rattle.std.specs.Int.{bit_at, from_le_bytes, w64}
 use Rattle.std.specs.Int.Bits.{bit_and}
 use Rattle.std.specs.Simd.{first_chunks}
 use Rattle.std.proofs.lemmas.List.{drop-drop, get_or-drop, get_or-take, get_or_past}
 use Rattle.std.proofs.Math.Seq.{take-add}
-use Rattle.std.proofs.lemmas.Nat.Bits.{bit_at_and, bit_at-lt, bit_at-zero}
+use Rattle.std.proofs.lemmas.Nat.Bits.{bit_at_and, bit_at-lt, bit_at-zero, bit_at-pow_other, bit_at_above, bit_at_cat_high, bit_at_cat_low, same_from_bits}
+use Rattle.std.proofs.lemmas.Bool.{cases_eq, cases_lt}
 use Rattle.std.proofs.lemmas.Str.{is_utf8-from_IsUtf8, IsAscii-append, IsAscii-drop, IsAscii-take, IsUtf8-from_ascii}
 use Rattle.std.specs.Str.{IsAscii}
 use Rattle.std.proofs.lemmas.Str.Ascii.{IsAscii-nil}
@@ -41,6 +42,43 @@ word_ascii xs small none k = by k
     by (suc (suc (suc (suc (suc (suc (suc zero))))))) = omega (arith, high (from_le_bytes w64 (take 8 xs)) 63 none refl, at 0 (omega arith), at 1 (omega arith), at 2 (omega arith), at 3 (omega arith), at 4 (omega arith), at 5 (omega arith), at 6 (omega arith), at 7 (omega arith))
     by (suc (suc (suc (suc (suc (suc (suc (suc k)))))))) = omega (arith, get_or_past (take 8 xs) (suc (suc (suc (suc (suc (suc (suc (suc k)))))))) 0 (omega (arith, length-take 8 xs)))
 
+-- a byte more of a word: one below 128 adds no high bit
+low_byte : (n m b : ℕ) → b < 128 → bit_and n m ≡ 0 → bit_and (n * 256 + b) (m * 256 + 128) ≡ 0
+low_byte n m b lt none = same_from_bits (bit_and (n * 256 + b) (m * 256 + 128)) 0 (λ i. bit_at_and (n * 256 + b) (m * 256 + 128) i ∙ by i ∙ sym (bit_at-zero i))
+  where
+    last : (i : ℕ) → min (bit_at b i) (bit_at 128 i) ≡ 0
+    last i =
+        elim (cases_eq i 7) [
+          | inl same ↦ rw (same, bit_at_above b 7 7 lt (omega arith)) refl
+          | inr other ↦ omega (arith, bit_at-pow_other 7 i other)
+        ]
+
+    by : (i : ℕ) → min (bit_at (n * 256 + b) i) (bit_at (m * 256 + 128) i) ≡ 0
+    by i =
+        elim (cases_lt i 8) [
+          | inl less ↦ (λ j. min (bit_at_cat_low n 8 b i less j) (bit_at_cat_low m 8 128 i less j)) ∙ last i
+          | inr more ↦
+              (λ j. min (bit_at_cat_high n 8 b i (omega arith) more j) (bit_at_cat_high m 8 128 i (omega arith) more j))
+              ∙ sym (bit_at_and n m (i - 8)) ∙ ap (λ k. bit_at k (i - 8)) none ∙ bit_at-zero (i - 8)
+        ]
+
+-- eight such bytes
+low_word : (a b c d e f g h : ℕ) → a < 128 → b < 128 → c < 128 → d < 128 → e < 128 → f < 128 → g < 128 → h < 128
+    → bit_and (((((((h * 256 + g) * 256 + f) * 256 + e) * 256 + d) * 256 + c) * 256 + b) * 256 + a) 0x8080_8080_8080_8080 ≡ 0
+low_word a b c d e f g h la lb lc ld le lf lg lh =
+    let alone : 0 * 256 + h ≡ h = omega arith in
+    let first : bit_and h 0x80 ≡ 0 = ap (λ n. bit_and n 0x80) (sym alone) ∙ low_byte 0 0 h lh refl in
+    low_byte _ 0x80_8080_8080_8080 a la (low_byte _ 0x8080_8080_8080 b lb (low_byte _ 0x80_8080_8080 c lc (low_byte _ 0x8080_8080 d ld (
+    low_byte _ 0x80_8080 e le (low_byte _ 0x8080 f lf (low_byte h 0x80 g lg first))))))
+
+word_plain : (xs : List ℕ) → IsAscii (take 8 xs) → bit_and (from_le_bytes w64 (take 8 xs)) 0x8080_8080_8080_8080 ≡ 0
+word_plain xs plain =
+    let ys = take 8 xs in
+    let at : ℕ → ℕ = λ i. get_or ys i 0 in
+    let same : from_le_bytes w64 ys ≡ ((((((at 7 * 256 + at 6) * 256 + at 5) * 256 + at 4) * 256 + at 3) * 256 + at 2) * 256 + at 1) * 256 + at 0 = omega arith in
+    ap (λ n. bit_and n 0x8080_8080_8080_8080) same
+    ∙ low_word (at 0) (at 1) (at 2) (at 3) (at 4) (at 5) (at 6) (at 7) (plain 0) (plain 1) (plain 2) (plain 3) (plain 4) (plain 5) (plain 6) (plain 7)
+
 chunk : (n i : ℕ) (xs : List ℕ) → i < n → get_or (first_chunks 8 n xs) i [] ≡ take 8 (drop (i * 8) xs)
 chunk zero i xs lt = absurd (omega arith)
 chunk (suc n) zero xs lt = refl
@@ -54,6 +92,11 @@ words_more n i xs lt small none told =
     let here = word_ascii (drop (i * 8) xs) (λ k. rw (get_or-drop (i * 8) xs k 0) (small (i * 8 + k))) (ap (λ w. bit_and (from_le_bytes w64 w) 0x8080_8080_8080_8080) (sym (chunk n i xs lt)) ∙ none) in
     let next : (i + 1) * 8 ≡ i * 8 + 8 = omega arith in
     rw (next, take-add (i * 8) 8 xs) (IsAscii-append (take (i * 8) xs) (take 8 (drop (i * 8) xs)) told here)
+
+-- a word of bytes that are ASCII has no high bit
+pub word_of_plain : (n i : ℕ) (xs : List ℕ) → i < n → IsAscii xs → bit_and (from_le_bytes w64 (get_or (first_chunks 8 n xs) i [])) 0x8080_8080_8080_8080 ≡ 0
+word_of_plain n i xs lt plain =
+    ap (λ w. bit_and (from_le_bytes w64 w) 0x8080_8080_8080_8080) (chunk n i xs lt) ∙ word_plain (drop (i * 8) xs) (IsAscii-take (drop (i * 8) xs) 8 (IsAscii-drop xs (i * 8) plain))
 
 -- a part of such bytes
 part_plain : (bytes : List ℕ) (start count : ℕ) → IsPlain bytes → IsPlain (take count (drop start bytes))

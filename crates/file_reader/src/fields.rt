@@ -56,7 +56,7 @@ fn is_plain(field: &[u8]) -> bool
 
 // Whether many bytes are ASCII, of which none has its high bit set, eight at a time.
 pub(crate) fn are_plain(bytes: &[u8]) -> bool
-    ensures { IsTrue result → IsAscii bytes.now }
+    ensures { IsTrue result ↔ IsAscii bytes.now }
 {
     let (words, rest) = bytes.as_chunks::<8>();
     for word in words {

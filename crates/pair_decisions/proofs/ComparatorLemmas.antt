@@ -1,12 +1,12 @@
 -- What is decided of pairs that stand in both files and rise.
-use Rattle.std.proofs.Common.{◌≡◌, ◌≤◌, ◌+◌, ℕ, Bool, List, [], ◌∷◌, length, filter, ap, arith, cond, refl, subst, sym, All, AllPairs, ◌<◌, Some, get_or, drop, ◌∙◌, find, map, true, false, ◌++◌, inl, inr, Option, None, IfSome, is_some}
+use Rattle.std.proofs.Common.{◌≡◌, ◌≤◌, ◌+◌, ℕ, zero, suc, Bool, List, [], ◌∷◌, length, filter, ap, arith, cond, refl, subst, sym, All, AllPairs, ◌<◌, Some, get_or, drop, ◌∙◌, find, map, true, false, ◌++◌, inl, inr, Option, None, IfSome, is_some}
 use Rattle.std.proofs.lemmas.List.Elements.{All-filter, All-map, All-nil, All-weaker}
 use Rattle.std.proofs.lemmas.List.Kept.{AllPairs-filter}
 use Rattle.link_base.specs.declared.rule.Decision.{Decision}
 use Rattle.link_base.specs.declared.rule.Decision.TheVariants.{Link, NonLink, Possible}
 use Rattle.link_base.specs.declared.rule.PairAt.{PairAt}
 use Rattle.link_base.specs.Words.{IsPairBefore, and_then, RefusesBut, is_want}
-use Rattle.pair_decisions.specs.Words.{DecidedView, count_with, decision_at, is_same, pairs_with, IsInside, FileRule, has_pattern, pattern_by, rares_in, pattern_over, AreSidesFor, PairRuleView, side_rule, place_of, SideComparator, answers_of, comparator_at, comparator_by, id_counts, rares_of, AreSidesOf, IsOfTexts, counts_by_pattern, AreRowsIn, decided_row, decided_rows, kept_rows}
+use Rattle.pair_decisions.specs.Words.{DecidedView, count_with, decision_at, is_same, pairs_with, IsInside, FileRule, has_pattern, pattern_by, rares_in, pattern_over, AreSidesFor, PairRuleView, side_rule, place_of, SideComparator, answers_of, comparator_at, comparator_by, id_counts, is_same_id, rares_of, AreSidesOf, IsOfTexts, counts_by_pattern, AreRowsIn, decided_row, decided_rows, kept_rows}
 use Rattle.std.proofs.lemmas.List.Folds.{find_at}
 use Rattle.std.proofs.lemmas.Option.{slice_get-get_or}
 use Rattle.link_base.specs.declared.rule.RuleCell.{RuleCell}
@@ -20,16 +20,17 @@ use Rattle.std.specs.Prelude.{MatchBool, Result, Ok, Err, ⊤}
 use Rattle.link_base.specs.declared.fault.Fault.{Fault}
 use Rattle.sample_counts.specs.Counts.{counts_by, judged_by}
 use Rattle.sample_counts.specs.declared.reviewed.Reviewed.{Reviewed}
-use Rattle.std.specs.List.{enumerate_from}
+use Rattle.std.specs.List.{enumerate_from, list_all}
 use Rattle.std.proofs.Math.ListN.{get_or-append}
 use Rattle.std.proofs.Math.Seq.{get_or-append_seam}
-use Rattle.std.proofs.lemmas.Bool.{cases_lt}
+use Rattle.std.proofs.lemmas.Bool.{and_parts, cases_lt}
 use Rattle.std.proofs.lemmas.List.{get_or_default, get_or-map, length-map, map-append}
 use Rattle.value_forms.specs.Canons.{exact}
 use Rattle.value_forms.specs.declared.canons.CompareKind.{CompareKind}
 use Rattle.value_forms.specs.declared.canons.CompareKind.TheVariants as by
 use Rattle.link_base.specs.declared.plan.FieldSort.TheVariants as sort
 use Rattle.comparators.specs.declared.ids.IdValue.TheVariants as id
+use Rattle.comparators.specs.declared.ids.FieldById.TheVariants as field
 use Rattle.link_plan.specs.Ranges.{IsRareNumber, may_be_rare}
 use Rattle.link_plan.specs.Plan.{FieldKeys}
 use Rattle.patterns.specs.PatternLaws.{pattern-lt}
@@ -97,6 +98,55 @@ outcomes_seen (c ∷ cs) (x ∷ xs) (y ∷ ys) = ap (λ os. field_outcome c x y 
 -- the pattern by comparators is that by their answers
 pub pattern_seen : (all : List FieldById) (a b : List IdValue) → number_of (map field_rare all) (outcomes field_outcome all a b) ≡ pattern_by (map answers_of all) a b
 pattern_seen all a b = λ i. number_of (rares_seen all i) (outcomes_seen all a b i)
+
+-- Fields that are all compared by their ids alone are compared as by any list of as many such comparisons.
+
+same_cases : (c : FieldById) (P : FieldById → Type 0) → is_same_id c ≡ true → P field.Same → P c
+same_cases field.Same P e h = h
+same_cases (field.Rare most counts) P e h = absurd (cc)
+same_cases (field.Days t) P e h = absurd (cc)
+same_cases (field.Years t) P e h = absurd (cc)
+
+same_at : (all : List FieldById) (k : ℕ) → list_all is_same_id all ≡ true → get_or all k field.Same ≡ field.Same
+same_at [] k e = refl
+same_at (c ∷ cs) zero e = same_cases c (λ x. x ≡ field.Same) (and_parts (is_same_id c) (list_all is_same_id cs) e).0 refl
+same_at (c ∷ cs) (suc k) e = same_at cs k (and_parts (is_same_id c) (list_all is_same_id cs) e).1
+
+module _ {K : Type 0} where
+  pub same_rares : (all : List FieldById) (kinds : List K) → list_all is_same_id all ≡ true → length kinds ≡ length all → map (λ (k : K). false) kinds ≡ map field_rare all
+  same_rares [] [] e len = refl
+  same_rares [] (k ∷ ks) e len = absurd (omega (arith, len))
+  same_rares (c ∷ cs) [] e len = absurd (omega (arith, len))
+  same_rares (c ∷ cs) (k ∷ ks) e len =
+      let both = and_parts (is_same_id c) (list_all is_same_id cs) e in
+      let rest = same_rares cs ks both.1 (omega (arith, len)) in
+      same_cases c (λ x. (false ∷ map (λ (k : K). false) ks) ≡ field_rare x ∷ map field_rare cs) both.0 (ap (λ (rs : List Bool). false ∷ rs) rest)
+
+  pub same_outcomes : (all : List FieldById) (kinds : List K) (a b : List IdValue) → list_all is_same_id all ≡ true → length kinds ≡ length all
+      → outcomes (λ (k : K). field_outcome field.Same) kinds a b ≡ outcomes field_outcome all a b
+  same_outcomes [] [] a b e len = refl
+  same_outcomes [] (k ∷ ks) a b e len = absurd (omega (arith, len))
+  same_outcomes (c ∷ cs) [] a b e len = absurd (omega (arith, len))
+  same_outcomes (c ∷ cs) (k ∷ ks) [] b e len = refl
+  same_outcomes (c ∷ cs) (k ∷ ks) (x ∷ xs) [] e len = refl
+  same_outcomes (c ∷ cs) (k ∷ ks) (x ∷ xs) (y ∷ ys) e len =
+      let both = and_parts (is_same_id c) (list_all is_same_id cs) e in
+      let rest = same_outcomes cs ks xs ys both.1 (omega (arith, len)) in
+      same_cases c (λ d. (field_outcome field.Same x y ∷ outcomes (λ (k : K). field_outcome field.Same) ks xs ys) ≡ field_outcome d x y ∷ outcomes field_outcome cs xs ys) both.0
+      (ap (λ os. field_outcome field.Same x y ∷ os) rest)
+
+  -- the pattern by ids alone
+  pub same_pattern : (all : List FieldById) (kinds : List K) (a b : List IdValue) → list_all is_same_id all ≡ true → length kinds ≡ length all
+      → number_of (map (λ (k : K). false) kinds) (outcomes (λ (k : K). field_outcome field.Same) kinds a b) ≡ pattern_by (map answers_of all) a b
+  same_pattern all kinds a b e len = (λ i. number_of (same_rares all kinds e len i) (same_outcomes all kinds a b e len i)) ∙ pattern_seen all a b
+
+  -- and the sides that they may be asked of
+  pub same_sides : (all : List FieldById) (kinds : List K) (sides : List IdValue) → list_all is_same_id all ≡ true → length kinds ≡ length all
+      → AreSides IsFieldSide all sides → AreSides (λ (k : K). IsFieldSide field.Same) kinds sides
+  same_sides all kinds sides e len h = record {
+    as_many = h.as_many ∙ sym len;
+    valid_at = λ k c s lt. subst (λ x. IsFieldSide x (get_or sides k s)) (same_at all k e) (h.valid_at k field.Same s (omega (arith, len, lt)));
+  }
 
 -- The counts of a sample by comparators are those by the patterns that their answers give, and so are its faults.
 

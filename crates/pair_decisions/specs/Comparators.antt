@@ -14,6 +14,7 @@ use Rattle.link_base.specs.Words.{Record, absent_value, no_record}
 use Rattle.link_limits.specs.declared.TheConstants.{MOST_FIELDS}
 use Rattle.patterns.specs.Patterns.{AreSides}
 use Rattle.comparators.specs.declared.ids.IdValue.TheVariants as id
+use Rattle.comparators.specs.declared.ids.FieldById.TheVariants as field
 
 -- a comparator as its answers: whether `Rare` is one of them, and the outcome of two sides
 pub record SideComparator (S : Type 0) : Type 0 where
@@ -22,6 +23,13 @@ pub record SideComparator (S : Type 0) : Type 0 where
 
 abbrev pub answers_of : FieldById → SideComparator IdValue
 answers_of c = record { rare = field_rare c; outcome = field_outcome c }
+
+-- whether a comparator looks at ids alone
+abbrev pub is_same_id : FieldById → Bool
+is_same_id field.Same = true
+is_same_id (field.Rare most counts) = false
+is_same_id (field.Days t) = false
+is_same_id (field.Years t) = false
 
 -- whether the side of a row in a field is this id
 abbrev pub is_id : ℕ → IdValue → Bool

@@ -1,6 +1,6 @@
 -- No public clause names this module: it hands on the words of this crate that the crates above share, types, constants and
 -- definitions, each by the name that it has where it is declared, so that a proof or a definition imports all of them by one line.
-pub use Rattle.pair_decisions.specs.Comparators.{AreSidesOf, IsOfTexts, SideComparator, StandForFile, StandInField, answers_of, comparator_at, comparator_by, comparators_of, count_of_id, has_id, id_counts, is_id, rares_of}
+pub use Rattle.pair_decisions.specs.Comparators.{AreSidesOf, IsOfTexts, SideComparator, StandForFile, StandInField, answers_of, comparator_at, comparator_by, comparators_of, count_of_id, has_id, id_counts, is_id, is_same_id, rares_of}
 pub use Rattle.pair_decisions.specs.Decisions.{AreDecisionsOn, DecidedView, IsInside, count_with, decision_at, is_same, pairs_with, pairs_within}
 pub use Rattle.pair_decisions.specs.Found.{IsFoundOf}
 pub use Rattle.pair_decisions.specs.PairLaws.{cells_below, cells_many, cells_of_rule, cells_stand, compared_inside, compared_rise, few_patterns, past_limit, shape_rares, sides_of_fields, within_limit}

@@ -19,6 +19,7 @@ use std::alloc::Global;
 const USUAL_END: usize = 24;
 
 // Writes the lines of rows.
+#[inline(never)]
 fn write_lines(
     writer: &mut PairsWriter,
     rule: &PairRule,

@@ -1,21 +1,39 @@
 // The rule of a plan over the sides of two files.
 ghost use Rattle.std.specs.Prelude.{◌≡◌, ◌<◌, ◌≤◌, All, IfOk, Some, find, length, map};
+ghost use Rattle.std.specs.List.{list_all};
 ghost use Rattle.comparators.specs.Fields.{field_rare};
 ghost use Rattle.link_base.specs.Rule.{IsWithinRanges};
 ghost use Rattle.pair_decisions.specs.PairRule.{AreCellsOf, AreSidesFor, has_pattern, IsRuleOver, pattern_by};
 ghost use Rattle.patterns.specs.Patterns.{pattern_count_by};
-ghost use Rattle.pair_decisions.specs.Comparators.{answers_of, rares_of, AreSidesOf};
+ghost use Rattle.pair_decisions.specs.Comparators.{answers_of, is_same_id as by_id_alone, rares_of, AreSidesOf};
 ghost use Rattle.link_plan.specs.Ranges.{KeepsRanges};
 
 use crate::comparisons::comparisons_of;
 use crate::places::places_of;
-use comparators::{FieldById, IdTable, IdValue};
+use comparators::{FieldById, IdTable, IdValue, SameId};
 use link_base::{NoMemory, RuleCell, RuleTable};
-use link_limits::MOST_ROWS;
+use link_limits::{MOST_FIELDS, MOST_ROWS};
 use link_plan::Plan;
 use patterns::pattern_over;
 use std::alloc::Global;
 use std::marker::Model;
+
+const SAME_ID: SameId = SameId;
+
+// A comparison of ids alone for each field.
+const SAME_IDS: [SameId; MOST_FIELDS as usize] = [SAME_ID; MOST_FIELDS as usize];
+
+fn is_same_id(comparator: &FieldById) -> bool
+    ensures { result ≡ by_id_alone comparator.now }
+{
+    matches!(comparator, FieldById::Same)
+}
+
+fn are_same_ids(comparators: &[FieldById]) -> bool
+    ensures { result ≡ list_all by_id_alone comparators.now }
+{
+    comparators.iter().all(|comparator| is_same_id(comparator))
+}
 
 /// The decision rule of a plan over the sides of two files. Contracts see its comparators, the cells
 /// of its filled table, and the seed of its border words.
@@ -26,6 +44,8 @@ pub struct PairRule {
     // The place of the cell of each pattern.
     places: Vec<u16>,
     seed: u64,
+    // Whether all fields are compared by their ids alone.
+    by_id: bool,
 }
 
 impl Model for PairRule {
@@ -36,7 +56,7 @@ impl Model for PairRule {
 
     ghost view = { λ r. record { comparators = r.comparators.items; cells = r.table.cells.items; seed = r.seed } };
 
-    ghost invariant = { λ r. KeepsPlaces r.comparators.items r.table.cells.items r.places.items };
+    ghost invariant = { λ r. KeepsPlaces r.by_id r.comparators.items r.table.cells.items r.places.items };
 }
 
 impl PairRule {
@@ -60,11 +80,13 @@ impl PairRule {
     {
         let comparators = comparisons_of(alloc, plan, texts, sides_a, sides_b)?;
         let places = places_of(alloc, table.cells())?;
+        let by_id = are_same_ids(&comparators);
         Ok(PairRule {
             comparators,
             table,
             places,
             seed: plan.terms.seed,
+            by_id,
         })
     }
 
@@ -96,6 +118,9 @@ impl PairRule {
         ensures number { result ≡ pattern_by (map answers_of self.now.comparators) a.now b.now }
         ensures range { result < length self.now.cells }
     {
+        if self.by_id {
+            return pattern_over(&SAME_IDS[..a.len()], a, b);
+        }
         pattern_over(&self.comparators, a, b)
     }
 

@@ -1,7 +1,8 @@
 use Rattle.std.proofs.Common.{◌≡◌, ◌<◌, ℕ, List, length, ap, arith, subst, sym, ◌∙◌, All, slice_index}
+use Rattle.std.specs.List.{list_all}
 use Rattle.link_base.specs.declared.rule.RuleCell.{RuleCell}
 use Rattle.patterns.specs.Patterns.{pattern_count_by}
-use Rattle.pair_decisions.specs.Words.{rares_of, cells_below, cells_many, cells_stand, few_patterns, place_of}
+use Rattle.pair_decisions.specs.Words.{is_same_id, rares_of, cells_below, cells_many, cells_stand, few_patterns, place_of}
 use Rattle.pair_decisions.proofs.pair_rule.PairRule.new.Goals as goal
 
 pub places_of-requires-clause-few : goal.places_of-requires-clause-few
@@ -28,6 +29,7 @@ invariant_of-result c =
     let Q : List RuleCell → Type 0 = λ cs. (pattern : ℕ) → place_of cs pattern < length cs → slice_index c.in_ok-places.places.items pattern ≡ place_of cs pattern in
     let told : Q cells = subst Q c.cells.ensures.all c.in_ok-places.ensures.told in
     record {
+      same = c.are_same_ids-by_id.ensures ∙ ap (list_all is_same_id) c.deref.ensures.value;
       few = c.in_ok-comparators.ensures.few;
       patterns = many ∙ ap pattern_count_by (sym c.in_ok-comparators.ensures.rares);
       as_many = c.in_ok-places.ensures.as_many ∙ ap length c.cells.ensures.all;
