@@ -1,23 +1,26 @@
 -- What the steps of a run give, over the prepared files of a plan.
-use Rattle.std.proofs.Common.{◌≡◌, ◌≤◌, ◌<◌, ◌+◌, ◌∷◌, ◌++◌, ◌∙◌, ℕ, zero, suc, List, [], Ok, Err, length, map, filter, drop, get_or, refl, sym, ap, append_assoc, arith, Some, slice_get, Bool, take, Result, subst, IfOk, slice_index, ℤ, true, false, if◌then◌else◌, codes, decimal, Contains, not, Option, None}
-use Rattle.std.proofs.lemmas.List.{append-nil, drop_all, drop_more, length-append, length-map, get_or_default, get_or-map}
+use Rattle.std.proofs.Common.{◌≡◌, ◌≤◌, ◌<◌, ◌+◌, ◌∷◌, ◌++◌, ◌∙◌, ℕ, zero, suc, List, [], Ok, Err, length, map, filter, drop, get_or, refl, sym, ap, append_assoc, arith, Some, slice_get, Bool, take, Result, subst, IfOk, slice_index, ℤ, true, false, if◌then◌else◌, codes, decimal, Contains, not, Option, None, ◌*◌, MatchBool}
+use Rattle.std.specs.Prelude.{⊤}
+use Rattle.std.proofs.lemmas.List.{append-nil, drop_all, drop_more, length-append, length-map, get_or_default, get_or-map, map-append}
 use Rattle.link_base.specs.declared.rule.PairAt.{PairAt}
-use Rattle.link_limits.specs.declared.TheConstants.{MOST_PAIRS, MOST_FIELD_BYTES}
+use Rattle.link_limits.specs.declared.TheConstants.{MOST_PAIRS, MOST_FIELD_BYTES, MOST_ROWS}
 use Rattle.pair_decisions.specs.Words.{past_limit, within_limit, sides_of_fields, pairs_within, rares_of, AreSidesOf, plain_all, comparators_of, StandForFile, AreDecisionsOn, DecidedView, shown_rows, side_rule, pattern_over, pattern_of_pair}
 use Rattle.std.proofs.lemmas.List.Elements.{filter-append, All-contains, All-filter, All-map, All-weaker, All-push}
-use Rattle.pair_walk.specs.Rows.{pair, pairs_of_row, product_from, same_text}
+use Rattle.pair_walk.specs.Rows.{pair, pairs_of_row, product_from}
 use Rattle.pair_walk.specs.PairLaws.{row-pairs}
-use Rattle.link_core.specs.Pairs.{column_pairs, is_column_pair, first_field, present, matched_rows, pairs_from, rows_with_field, compared_field}
-use Rattle.std.specs.List.{All, range_with_len, concat, flat_map}
+use Rattle.link_core.specs.Pairs.{column_pairs, is_column_pair, first_field, only_field, present, matched_rows, pairs_from, pairs_of_fields, rows_with_field, compared_field, NumbersFields, NumbersRows}
+use Rattle.std.specs.List.{All, concat, flat_map}
 use Rattle.std.proofs.lemmas.Option.{slice_get-get_or}
 use Rattle.block_passes.specs.Keys.{rows_with_number}
-use Rattle.block_passes.specs.Numbering.{AreNumbered, AreNumbers, KeepNumbers, no_number, number_among}
-use Rattle.block_passes.specs.NumberingLaws.{numbered-rows, place-within}
-use Rattle.file_reader.specs.Words.{no_row, TableRow, HasTexts}
+use Rattle.block_passes.specs.Numbering.{AreNumbered, AreNumbers, IsNumbered, KeepNumbers, no_number, number_among}
+use Rattle.block_passes.specs.NumberingLaws.{given_more, numbered_more, numbered-rows, place-within}
+use Rattle.file_reader.specs.Words.{TableRow, with_ids}
+use Rattle.file_reader.specs.Takers.{IsTaken}
 use Rattle.value_pool.specs.Pool.{with_text, PoolState, place_among}
 use Rattle.value_pool.proofs.PlaceLemmas.{at-place, held-turned}
-use Rattle.std.proofs.Math.Seq.{take-append_seam}
-use Rattle.link_base.specs.Words.{Record, id_at, id_alone, ids_alone, absent_value, no_record, and_then, IsAnswer, Refuses}
+use Rattle.std.proofs.Math.Seq.{get_or-append_seam, take-append_seam}
+use Rattle.std.proofs.Math.ListN.{get_or-append}
+use Rattle.link_base.specs.Words.{Record, id_at, id_alone, ids_alone, absent_value, no_record, and_then, IsAnswer, Refuses, is_want}
 use Rattle.link_base.specs.declared.rule.RuleCell.{RuleCell}
 use Rattle.link_base.specs.declared.shares.FieldShares.{FieldShares}
 use Rattle.comparators.specs.declared.ids.IdValue.{IdValue}
@@ -128,12 +131,79 @@ kept_on old mid new first second code h =
     let two = second code one.1 in
     (two.0 ∙ one.0, two.1)
 
--- a field of a table keeps the limit
-pub field_short : (rows : List TableRow) (at : ℕ) → HasTexts rows → All (λ (r : TableRow). length r.fields ≡ 1) rows → at < length rows → length (first_field (get_or rows at no_row)) ≤ MOST_FIELD_BYTES
-field_short rows at texts width lt =
-    let one = width at no_row lt in
-    let text = (texts at no_row lt).fields 0 [] (omega (arith, one)) in
-    text.short
+-- the numbers of the fields of rows of one, where one row more is taken
+
+module _ (texts : List (List ℕ)) (f g : ℕ → Option (List ℕ)) (n : ℕ) (same : (k : ℕ) → k < n → f k ≡ g k) where
+  numbers_same : (numbers : List ℕ) → AreNumbers texts f n numbers → AreNumbers texts g n numbers
+  numbers_same numbers h = (h.0, λ k lt. h.1 k lt ∙ ap (number_among texts) (same k lt))
+
+  numbered_same : AreNumbered texts f n → AreNumbered texts g n
+  numbered_same h = λ k lt. subst (IsNumbered texts) (same k lt) (h k lt)
+
+pub row_numbered : (before old new : PoolState) (rows : List (List (List ℕ))) (row : List (List ℕ)) (numbers more : List ℕ) (number : ℕ)
+    → NumbersRows before rows old numbers → length (only_field row) ≤ MOST_FIELD_BYTES → new.limit ≡ old.limit → new.used ≤ old.used + length (only_field row)
+    → KeepNumbers old.texts new.texts → number ≡ number_among new.texts (present (only_field row)) → IsNumbered new.texts (present (only_field row))
+    → more ≡ numbers ++ number ∷ [] → NumbersRows before (rows ++ row ∷ []) new more
+row_numbered before old new rows row numbers more number h short limit used kept is known grown =
+    let n = length rows in
+    let fields = map only_field rows in
+    let all = rows ++ row ∷ [] in
+    let code = compared_field (map only_field all) in
+    let both : map only_field all ≡ fields ++ only_field row ∷ [] = map-append only_field rows (row ∷ []) in
+    let wide : length fields ≡ n = length-map rows only_field in
+    let count : length all ≡ n + 1 = length-append rows (row ∷ []) in
+    let first : (k : ℕ) → k < n → compared_field fields k ≡ code k = λ k lt. ap present (sym (ap (λ xs. get_or xs k []) both ∙ get_or-append fields (only_field row ∷ []) [] k (omega (arith, wide, lt)))) in
+    let last : present (only_field row) ≡ code n =
+    ap present (sym (ap (λ xs. get_or xs n []) both ∙ ap (λ k. get_or (fields ++ only_field row ∷ []) k []) (sym wide) ∙ get_or-append_seam fields (only_field row) [] [])) in
+    let known_first = numbered_same old.texts (compared_field fields) code n first h.numbered in
+    let told = given_more old.texts new.texts code n numbers more number kept known_first (numbers_same old.texts (compared_field fields) code n first numbers h.numbers) grown (is ∙ ap (number_among new.texts) last) in
+    let known_all = numbered_more old.texts new.texts code n kept known_first (subst (IsNumbered new.texts) last known) in
+    record {
+      room = h.room;
+      limit = limit ∙ h.limit;
+      used = omega (arith, used, h.used, short, count);
+      kept = kept_on before.texts old.texts new.texts h.kept kept;
+      numbers = subst (λ m. AreNumbers new.texts code m more) (sym count) told;
+      numbered = subst (λ m. AreNumbered new.texts code m) (sym count) known_all;
+    }
+
+-- no row is taken yet
+pub none_numbered : (pool : PoolState) → pool.used + MOST_ROWS * MOST_FIELD_BYTES ≤ pool.limit → NumbersRows pool [] pool []
+none_numbered pool room = record {
+  room = room;
+  limit = refl;
+  used = omega arith;
+  kept = λ code h. (refl, h);
+  numbers = (refl, λ k lt. absurd (omega (arith, lt)));
+  numbered = λ k lt. absurd (omega (arith, lt));
+}
+
+-- the fields of the rows of a table without ids are those of the rows that were taken
+first_fields : (rows : List (List (List ℕ))) (ids : List (List ℕ)) → map first_field (with_ids rows ids) ≡ map only_field rows
+first_fields [] ids = refl
+first_fields (row ∷ rows) [] = ap (λ fields. only_field row ∷ fields) (first_fields rows [])
+first_fields (row ∷ rows) (id ∷ ids) = ap (λ fields. only_field row ∷ fields) (first_fields rows ids)
+
+pub column_taken : (has_id : Bool) (most : ℕ) (old new : PoolState) (numbers : List ℕ) (expected column : Result (List TableRow) Fault) (ids : List (List ℕ)) (count : ℕ)
+    → expected ≡ column → most ≤ MOST_ROWS → IsTaken has_id most (λ rows. NumbersRows old rows new numbers) expected ids count
+    → (fields : List (List ℕ)) × (and_then column (λ rows. Ok (map first_field rows)) ≡ Ok fields) × NumbersFields old new fields numbers
+column_taken has_id most old new numbers expected column ids count is few h =
+    let taken = h.taken in
+    let fields = map only_field h.rows in
+    let wide : length fields ≡ length h.rows = length-map h.rows only_field in
+    let told : and_then column (λ rows. Ok (map first_field rows)) ≡ Ok fields =
+    ap (λ (r : Result (List TableRow) Fault). and_then r (λ rows. Ok (map first_field rows))) (sym is ∙ h.table) ∙ ap Ok (first_fields h.rows ids) in (
+      fields,
+      told,
+      record {
+        few = omega (arith, wide, h.as_many, h.few, few);
+        limit = taken.limit;
+        used = omega (arith, taken.used, h.as_many, h.few, few);
+        kept = taken.kept;
+        numbers = subst (λ n. AreNumbers new.texts (compared_field fields) n numbers) (sym wide) taken.numbers;
+        numbered = subst (λ n. AreNumbered new.texts (compared_field fields) n) (sym wide) taken.numbered;
+      },
+    )
 
 mapped_both : (f : ℕ → List ℕ) (g : List ℕ → List ℕ) (numbers : List ℕ) (fields : List (List ℕ)) → length numbers ≡ length fields
     → ((j : ℕ) → j < length fields → f (get_or numbers j 0) ≡ g (get_or fields j [])) → map f numbers ≡ map g fields
@@ -145,21 +215,40 @@ mapped_both f g (n ∷ numbers) (field ∷ fields) len same =
     rw (same zero (omega arith), rest) refl
 
 -- the rows of B with the number of a field of A are those with the field
-pub rows_matched : (mid texts : List (List ℕ)) (a b : List TableRow) (numbers_a numbers_b : List ℕ) → length texts ≤ no_number
-    → AreNumbers mid (compared_field (map first_field a)) (length a) numbers_a → AreNumbered mid (compared_field (map first_field a)) (length a) → KeepNumbers mid texts
-    → AreNumbers texts (compared_field (map first_field b)) (length b) numbers_b → AreNumbered texts (compared_field (map first_field b)) (length b)
-    → map (rows_with_number numbers_b (length texts)) numbers_a ≡ matched_rows (map first_field a) (map first_field b)
+pub rows_matched : (mid texts a b : List (List ℕ)) (numbers_a numbers_b : List ℕ) → length texts ≤ no_number
+    → AreNumbers mid (compared_field a) (length a) numbers_a → AreNumbered mid (compared_field a) (length a) → KeepNumbers mid texts
+    → AreNumbers texts (compared_field b) (length b) numbers_b → AreNumbered texts (compared_field b) (length b)
+    → map (rows_with_number numbers_b (length texts)) numbers_a ≡ matched_rows a b
 rows_matched mid texts a b numbers_a numbers_b few told_a known_a kept told_b known_b =
-    let fields_a = map first_field a in
-    let fields_b = map first_field b in
-    let wide_a : length fields_a ≡ length a = length-map a first_field in
-    let wide_b : length fields_b ≡ length b = length-map b first_field in
-    let number : (j : ℕ) → j < length a → get_or numbers_a j 0 ≡ number_among texts (compared_field fields_a j) = λ j lt. told_a.1 j lt ∙ sym (kept (compared_field fields_a j) (known_a j lt)).0 in
-    mapped_both (rows_with_number numbers_b (length texts)) (rows_with_field fields_b) numbers_a fields_a (told_a.0 ∙ sym wide_a)
+    let number : (j : ℕ) → j < length a → get_or numbers_a j 0 ≡ number_among texts (compared_field a j) = λ j lt. told_a.1 j lt ∙ sym (kept (compared_field a j) (known_a j lt)).0 in
+    mapped_both (rows_with_number numbers_b (length texts)) (rows_with_field b) numbers_a a told_a.0
     (λ j lt.
-    ap (rows_with_number numbers_b (length texts)) (number j (omega (arith, lt, wide_a)))
-    ∙ numbered-rows texts few numbers_b (compared_field fields_b) (length b) told_b.0 told_b.1 known_b (compared_field fields_a j)
-    ∙ ap (λ count. filter (λ k. same_text (compared_field fields_a j) (compared_field fields_b k)) (range_with_len 0 count)) (sym wide_b))
+    ap (rows_with_number numbers_b (length texts)) (number j lt)
+    ∙ numbered-rows texts few numbers_b (compared_field b) (length b) told_b.0 told_b.1 known_b (compared_field a j))
+
+-- the fields of both columns are known
+pub columns_read : (x : Result (List (List ℕ)) Fault) (y : Result (List (List ℕ)) Fault) (a b : List (List ℕ)) → x ≡ Ok a → y ≡ Ok b
+    → and_then {A = List (List ℕ) × List (List ℕ)} (and_then x (λ u. and_then y (λ v. Ok (u, v)))) (λ both. Ok (matched_rows both.0 both.1)) ≡ Ok (matched_rows a b)
+columns_read x y a b of_a of_b = rw (of_a, of_b) refl
+
+-- the pairs of the rows that match are those of the column
+pub columns_matched : (x : Result (List (List ℕ) × List (List ℕ)) Fault) (rows : List (List ℕ)) → and_then x (λ both. Ok (matched_rows both.0 both.1)) ≡ Ok rows
+    → and_then x (λ both. pairs_of_fields both.0 both.1) ≡ pairs_within (pairs_from 0 rows)
+columns_matched (Ok both) rows e =
+    let same : matched_rows both.0 both.1 ≡ rows = cc in
+    ap pairs_within (sym (columns_paired both.0 both.1) ∙ ap (pairs_from 0) same)
+columns_matched (Err f) rows e = absurd (cc)
+
+-- a fault of the columns is one of their pairs
+pub columns_refused : (x : Result (List (List ℕ) × List (List ℕ)) Fault) (f : Fault) → Refuses (and_then x (λ both. Ok (matched_rows both.0 both.1))) f
+    → Refuses (and_then x (λ both. pairs_of_fields both.0 both.1)) f
+columns_refused x f h = by (is_want f) x h
+  where
+    by : (free : Bool) (y : Result (List (List ℕ) × List (List ℕ)) Fault) → MatchBool free ⊤ (and_then y (λ both. Ok (matched_rows both.0 both.1)) ≡ Err f)
+        → MatchBool free ⊤ (and_then y (λ both. pairs_of_fields both.0 both.1) ≡ Err f)
+    by true y h = tt
+    by false (Ok both) h = absurd (cc)
+    by false (Err g) h = let same : g ≡ f = cc in ap Err same
 
 -- The sides of prepared files are those that the comparators of a plan take.
 

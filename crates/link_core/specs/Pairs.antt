@@ -1,6 +1,6 @@
 -- The compared pairs of a plan, and the text of their ids. `pair_ids` carries it (clause `answer`).
-use Rattle.std.specs.Prelude.{ℕ, List, Result, Ok, ◌+◌, ◌++◌, ◌∷◌, [], length, map, codes, decimal, filter, slice_index_or, Bool, Option, Some, None, ◌≡◌, ◌≤◌, All, Vec}
-use Rattle.link_base.specs.Words.{and_then}
+use Rattle.std.specs.Prelude.{ℕ, List, Result, Ok, Err, ◌+◌, ◌*◌, ◌++◌, ◌∷◌, [], length, map, codes, decimal, filter, slice_index_or, Bool, Option, Some, None, ◌≡◌, ◌≤◌, Vec}
+use Rattle.link_base.specs.Words.{and_then, Refuses}
 use Rattle.link_base.specs.declared.fault.Fault.{Fault}
 use Rattle.value_forms.specs.declared.passes.Part.{Part}
 use Rattle.link_base.specs.declared.rule.PairAt.{PairAt}
@@ -10,9 +10,12 @@ use Rattle.link_plan.specs.declared.plan.Plan.{Plan}
 use Rattle.standard_files.specs.Files.{StandardPair}
 use Rattle.link_report.specs.PairsText.{ids_text}
 use Rattle.std.specs.List.{flat_map, range_with_len}
-use Rattle.file_reader.specs.Words.{records_in, table_of, HasTexts, Wanted, TableRow}
+use Rattle.file_reader.specs.Words.{records_in, table_of, Wanted, TableRow}
+use Rattle.value_pool.specs.Pool.{PoolState}
+use Rattle.block_passes.specs.Numbering.{AreNumbered, AreNumbers, KeepNumbers}
+use Rattle.link_core.specs.declared.column_numbers.ColumnNumbers.{ColumnNumbers}
 use Rattle.link_base.specs.declared.fault.FileRole.{FileRole}
-use Rattle.link_limits.specs.declared.TheConstants.{MOST_ROWS}
+use Rattle.link_limits.specs.declared.TheConstants.{MOST_FIELD_BYTES, MOST_ROWS}
 use Rattle.std.specs.declared.alloc.Global.{Global}
 use Rattle.link_base.specs.declared.fault.FileRole.TheVariants as role
 
@@ -81,12 +84,6 @@ rows_of_pairs column bytes_a bytes_b = and_then (pairs_of_files column bytes_a b
 
 -- The rows of B with the field of each row of A, by which `pair_rows` lists its pairs: no public clause cites them.
 
--- a table of one column
-pub record IsColumn (table : List TableRow) : Type 0 where
-  pub few : length table ≤ MOST_ROWS
-  pub width : All (λ (r : TableRow). length r.fields ≡ 1) table
-  pub texts : HasTexts table
-
 -- the field of a row, where it is not empty
 abbrev pub compared_field : List (List ℕ) → ℕ → Option (List ℕ)
 compared_field fields at = present (slice_index_or fields at [])
@@ -98,6 +95,37 @@ rows_with_field fields field = filter (λ at. same_text (present field) (compare
 -- for each row of A the rows of B with its field
 abbrev pub matched_rows : List (List ℕ) → List (List ℕ) → List (List ℕ)
 matched_rows a b = map (rows_with_field b) a
+
+-- for each row of a column of A the rows of B with its field, or the first fault
+abbrev pub matched_columns : List ℕ → List ℕ → List ℕ → Result (List (List ℕ)) Fault
+matched_columns column bytes_a bytes_b = and_then (compared_columns column bytes_a bytes_b) (λ both. Ok (matched_rows both.0 both.1))
+
+-- the numbers of fields by a pool, which keeps those that it had
+pub record NumbersFields (old new : PoolState) (fields : List (List ℕ)) (given : List ℕ) : Type 0 where
+  pub few : length fields ≤ MOST_ROWS
+  pub limit : new.limit ≡ old.limit
+  pub used : new.used ≤ old.used + MOST_ROWS * MOST_FIELD_BYTES
+  pub kept : KeepNumbers old.texts new.texts
+  pub numbers : AreNumbers new.texts (compared_field fields) (length fields) given
+  pub numbered : AreNumbered new.texts (compared_field fields) (length fields)
+
+-- the fields of a column have numbers, or its fault is told
+abbrev pub NumbersColumn : PoolState → Result (List (List ℕ)) Fault → Result ColumnNumbers Fault → Type 0
+NumbersColumn old expected (Ok c) = (fields : List (List ℕ)) × (expected ≡ Ok fields) × NumbersFields old c.pool fields c.numbers.items
+NumbersColumn old expected (Err f) = Refuses expected f
+
+-- the field of a row of one
+abbrev pub only_field : List (List ℕ) → List ℕ
+only_field row = slice_index_or row 0 []
+
+-- the numbers of the fields of rows of one, taken into a pool with room for them
+pub record NumbersRows (old : PoolState) (rows : List (List (List ℕ))) (new : PoolState) (given : List ℕ) : Type 0 where
+  pub room : old.used + MOST_ROWS * MOST_FIELD_BYTES ≤ old.limit
+  pub limit : new.limit ≡ old.limit
+  pub used : new.used ≤ old.used + length rows * MOST_FIELD_BYTES
+  pub kept : KeepNumbers old.texts new.texts
+  pub numbers : AreNumbers new.texts (compared_field (map only_field rows)) (length rows) given
+  pub numbered : AreNumbered new.texts (compared_field (map only_field rows)) (length rows)
 
 -- the pairs of the rows from `at` on
 abbrev pub pairs_from : ℕ → List (List ℕ) → List PairAt

@@ -1,6 +1,7 @@
 //! From the bytes of files to results.
 #![tactic(auto)]
 
+mod column_numbers;
 mod column_pairs;
 mod column_rows;
 mod decisions;

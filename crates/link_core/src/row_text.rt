@@ -6,6 +6,9 @@ use itoa::Buffer;
 use link_base::{NoMemory, PairAt};
 use std::alloc::Global;
 
+// How many bytes a line has mostly, for which room is made beforehand: two numbers of five digits, a comma and the end.
+const USUAL_LINE: usize = 12;
+
 // Appends the number of a row in decimal digits.
 pub(crate) fn push_row(text: &mut Vec<u8>, row: u64) -> Result<(), NoMemory>
     ensures { OnOk result (text.new.items ≡ text.old.items ++ decimal row) }
@@ -29,7 +32,7 @@ fn push_pair(text: &mut Vec<u8>, pair: PairAt) -> Result<(), NoMemory>
 pub(crate) fn rows_text(alloc: Global, pairs: &[PairAt]) -> Result<Vec<u8>, NoMemory>
     ensures { IfOk result (λ text. text.items ≡ pairs_text pairs.now) }
 {
-    let mut text = Vec::new(alloc);
+    let mut text = Vec::with_capacity(alloc, pairs.len().saturating_mul(USUAL_LINE))?;
     text.extend_from_slice(b"row_a,row_b\n")?;
     for pair in pairs {
         push_pair(&mut text, *pair)?;

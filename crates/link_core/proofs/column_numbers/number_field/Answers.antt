@@ -1,6 +1,6 @@
 use Rattle.std.proofs.Common.{◌≡◌, ◌∙◌, length, rules}
 use Rattle.link_core.proofs.ResultLemmas.{present_is, taken_place, taken_within}
-use Rattle.link_core.proofs.column_rows.number_field.Goals as goal
+use Rattle.link_core.proofs.column_numbers.number_field.Goals as goal
 
 pub returns-in-Ok-clause-number : goal.returns-in-Ok-clause-number
 returns-in-Ok-clause-number c =
