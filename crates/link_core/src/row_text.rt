@@ -2,12 +2,14 @@
 ghost use Rattle.std.specs.Prelude.{◌≡◌, ◌++◌, IfOk, OnOk, decimal};
 ghost use Rattle.link_core.specs.Pairs.{pair_line, pairs_text};
 
-use itoa::Buffer;
+use itoa::{Buffer, write_digits};
 use link_base::{NoMemory, PairAt};
 use std::alloc::Global;
 
 // How many bytes a line has mostly, for which room is made beforehand: two numbers of five digits, a comma and the end.
 const USUAL_LINE: usize = 12;
+// How many bytes a line has at most: two numbers of ten digits, a comma and the end.
+const MOST_LINE: usize = 22;
 
 // Appends the number of a row in decimal digits.
 pub(crate) fn push_row(text: &mut Vec<u8>, row: u64) -> Result<(), NoMemory>
@@ -18,13 +20,16 @@ pub(crate) fn push_row(text: &mut Vec<u8>, row: u64) -> Result<(), NoMemory>
     Ok(())
 }
 
+// Appends the line of a pair, which is made from its end.
+#[inline(always)]
 fn push_pair(text: &mut Vec<u8>, pair: PairAt) -> Result<(), NoMemory>
     ensures { OnOk result (text.new.items ≡ text.old.items ++ pair_line pair) }
 {
-    push_row(text, u64::from(pair.a) + 1)?;
-    text.push(b',')?;
-    push_row(text, u64::from(pair.b) + 1)?;
-    text.push(b'\n')?;
+    let mut line = [b'\n'; MOST_LINE];
+    let comma = write_digits(u64::from(pair.b) + 1, &mut line, MOST_LINE - 1) - 1;
+    line[comma] = b',';
+    let start = write_digits(u64::from(pair.a) + 1, &mut line, comma);
+    text.extend_from_slice(&line[start..])?;
     Ok(())
 }
 
