@@ -4,7 +4,7 @@ ghost use Rattle.link_base.specs.Ids.{AreDistinct, IsNewId, Keeps, position_amon
 
 use crate::region::TextRegion;
 use crate::rising_ids::{USUAL_BYTES, comes_last, find_rising, pooled, rising_are_distinct};
-use link_texts::NoMemory;
+use link_texts::{NoMemory, Piece};
 use std::alloc::Global;
 use std::marker::Model;
 use value_pool::Pool;
@@ -153,9 +153,17 @@ impl IdSet {
         requires { at < length self.now }
         ensures { result.now ≡ slice_index_or self.now at [] }
     {
+        self.piece(at).text()
+    }
+
+    /// The id at a place, as a piece of the room of all ids.
+    pub fn piece(&self, at: u32) -> Piece<'_>
+        requires { at < length self.now }
+        ensures { result ≡ slice_index_or self.now at [] }
+    {
         match &self.pooled {
-            Some(pool) => pool.text_at(at),
-            None => self.rising.get(at as usize),
+            Some(pool) => pool.piece_at(at),
+            None => self.rising.piece(at as usize),
         }
     }
 

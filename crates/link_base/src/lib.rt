@@ -19,7 +19,7 @@ mod tables;
 
 pub use fault::{Fault, FileRole, push_fault, status_of};
 pub use ids::IdSet;
-pub use link_texts::{NoMemory, Text, TextList, push_number};
+pub use link_texts::{NoMemory, Piece, Text, TextList, push_number};
 pub use plan::{DateForm, FieldSort};
 pub use region::TextRegion;
 pub use row::{Row, ValueRef};

@@ -2,7 +2,7 @@
 ghost use Rattle.std.specs.Prelude.{◌≡◌, ◌<◌, ◌≤◌, ◌++◌, ◌+◌, ◌∷◌, [], IfOk, length, OnErr, OnOk, slice_index_or, slice_range};
 ghost use Rattle.link_base.specs.Region.{EndsAt, pieces_from, start_at};
 
-use link_texts::NoMemory;
+use link_texts::{NoMemory, Piece};
 use std::alloc::Global;
 use std::marker::Model;
 
@@ -76,12 +76,21 @@ impl TextRegion {
         Ok(())
     }
 
+    /// The text at a place, from 0, as a piece of the region.
+    #[inline(always)]
+    pub fn piece(&self, at: usize) -> Piece<'_>
+        requires { at < length self.now }
+        ensures { result ≡ slice_index_or self.now at [] }
+    {
+        text_in(&self.bytes, &self.ends, at)
+    }
+
     /// The text at a place, from 0.
     pub fn get(&self, at: usize) -> &[u8]
         requires { at < length self.now }
         ensures { result.now ≡ slice_index_or self.now at [] }
     {
-        piece_in(&self.bytes, &self.ends, at)
+        self.piece(at).text()
     }
 }
 
@@ -124,4 +133,14 @@ pub(crate) fn piece_in<'b, T>(items: &'b [T], ends: &[u32], at: usize) -> &'b [T
     ensures { result.now ≡ slice_index_or (pieces_from items.now 0 ends.now) at [] }
 {
     part(items, end_of(ends, at), ends[at] as usize)
+}
+
+// The text at a place among the bytes.
+#[inline(always)]
+fn text_in<'b>(bytes: &'b [u8], ends: &[u32], at: usize) -> Piece<'b>
+    requires rising { EndsAt (length bytes.now) 0 ends.now }
+    requires within { at < length ends.now }
+    ensures { result ≡ slice_index_or (pieces_from bytes.now 0 ends.now) at [] }
+{
+    Piece::within(bytes, end_of(ends, at), ends[at] as usize)
 }

@@ -5,7 +5,7 @@ ghost use Rattle.link_base.specs.Standard.{ids_alone, HaveDistinctIds, IsFreshId
 use crate::ids::IdSet;
 use crate::row::Row;
 use crate::rows::StdRows;
-use link_texts::{NoMemory, Text};
+use link_texts::{NoMemory, Piece, Text};
 use std::alloc::Global;
 use std::marker::Model;
 
@@ -70,7 +70,15 @@ impl StdFile {
         requires { at < length self.now }
         ensures { result.now ≡ (slice_index_or self.now at no_record).id }
     {
-        self.ids.id(at)
+        self.id_piece(at).text()
+    }
+
+    /// The id of the record at a position, as a piece of the room of all ids.
+    pub fn id_piece(&self, at: u32) -> Piece<'_>
+        requires { at < length self.now }
+        ensures { result ≡ (slice_index_or self.now at no_record).id }
+    {
+        self.ids.piece(at)
     }
 
     /// The values of the record at a position.

@@ -1,6 +1,6 @@
 -- Machinery of the lines of pairs: ids as fields of lines, the start of a line, and its end, which many lines share. No public
 -- clause names it.
-use Rattle.std.specs.Prelude.{◌≡◌, All, Bool, List, ℕ, [], ◌∷◌, ◌++◌, decimal, map, Option, Some, None}
+use Rattle.std.specs.Prelude.{◌≡◌, ◌≤◌, All, Bool, List, ℕ, [], ◌∷◌, ◌++◌, decimal, length, map, take, Option, Some, None}
 use Rattle.std.specs.Fmt.{signed_decimal}
 use Rattle.csv.specs.Writing.{default_writer, field_text, row_text}
 use Rattle.link_base.specs.Words.{id_at, Record}
@@ -39,9 +39,13 @@ pair_end rares row =
     row_text default_writer ([] ∷ decimal row.pattern ∷ outcome_letters rares row.pattern ∷ signed_decimal row.weight
     ∷ decision_word row.decision ∷ printed_verdict row.verdict ∷ [])
 
+-- the bytes of an end that is kept
+abbrev pub KeepsEnd : List ℕ → LineEnd → Type 0
+KeepsEnd bytes end = (end.bytes ≤ length end.text.items) × (take end.bytes end.text.items ≡ bytes)
+
 -- an end that is kept is that of the pair that it was written for
 abbrev pub IsEnd : List Bool → LineEnd → Type 0
-IsEnd rares end = end.text.items ≡ pair_end rares end.of
+IsEnd rares end = KeepsEnd (pair_end rares end.of) end
 
 -- Machinery of the text of the final links: the end of a line. No public clause names it.
 
@@ -53,6 +57,10 @@ pair_of link = record { a = link.a; b = link.b }
 abbrev pub end_of_link : Candidate → List ℕ
 end_of_link link = row_text default_writer ([] ∷ signed_decimal link.weight ∷ signed_decimal link.value ∷ source_of_link link.reviewed ∷ [])
 
+-- the bytes of an end that is kept
+abbrev pub KeepsLinkEnd : List ℕ → LinkEnd → Type 0
+KeepsLinkEnd bytes end = (end.bytes ≤ length end.text.items) × (take end.bytes end.text.items ≡ bytes)
+
 -- an end that is kept is that of the link that it was written for
 abbrev pub IsLinkEnd : LinkEnd → Type 0
-IsLinkEnd end = end.text.items ≡ end_of_link end.of
+IsLinkEnd end = KeepsLinkEnd (end_of_link end.of) end

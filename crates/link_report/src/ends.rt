@@ -1,16 +1,17 @@
 // The ends of the lines of pairs, each made once.
 ghost use Rattle.std.specs.Prelude.{◌≡◌, ◌<◌, ◌++◌, All, Bool, IfOk, IsTrue, List, OnOk, length, slice_index_or};
-ghost use Rattle.link_report.specs.LineParts.{IsEnd, pair_end};
+ghost use Rattle.link_report.specs.LineParts.{IsEnd, KeepsEnd, pair_end, two_fields};
 ghost use Rattle.link_report.specs.PairsText.{decision_word, printed_verdict};
 ghost use Rattle.link_report.specs.LinksText.{outcome_letters};
 ghost use Rattle.link_report.specs.declared.ends.LineEnd.{LineEnd as End};
 ghost use Rattle.patterns.specs.Patterns.{pattern_count_by, rare_of};
 
+use crate::lines::{END_BYTES, append_line};
 use crate::open::PairRow;
 use crate::rule::letters_of;
 use csv_rows::push_row;
 use itoa::Buffer;
-use link_base::{Decision, NoMemory, PairAt, Shape, Verdict};
+use link_base::{Decision, NoMemory, PairAt, Piece, Shape, Verdict};
 use patterns::pattern_count;
 use std::alloc::Global;
 use std::marker::Model;
@@ -62,20 +63,28 @@ fn push_end<'t>(text: &mut Vec<u8>, letters: &'t [u8], row: &'t PairRow) -> Resu
 #[derive(Drop)]
 pub(crate) struct LineEnd {
     of: PairRow,
+    // The end, and behind it as many bytes as are copied with one that is short.
     text: Vec<u8>,
+    // How many bytes the end has.
+    bytes: usize,
 }
 
 // The end of the line of a pair.
 fn line_end(alloc: Global, shape: &Shape, row: &PairRow) -> Result<LineEnd, NoMemory>
     requires { row.now.pattern < pattern_count_by (rare_of shape.now) }
     ensures of { IfOk result (λ end. end.of ≡ row.now) }
-    ensures text { IfOk result (λ end. end.text.items ≡ pair_end (rare_of shape.now) row.now) }
     ensures right { IfOk result (IsEnd (rare_of shape.now)) }
 {
     let letters = letters_of(alloc, shape, row.pattern)?;
     let mut text = Vec::new(alloc);
     push_end(&mut text, &letters, row)?;
-    Ok(LineEnd { of: *row, text })
+    let bytes = text.len();
+    text.extend_from_slice(&[0; END_BYTES])?;
+    Ok(LineEnd {
+        of: *row,
+        text,
+        bytes,
+    })
 }
 
 // Whether two pairs have the same decision.
@@ -125,16 +134,16 @@ fn replace_end(
     ends: &mut Vec<LineEnd>,
     alloc: Global,
     shape: &Shape,
-    row: &PairRow,
+    row: PairRow,
 ) -> Result<(), NoMemory>
-    requires pattern { row.now.pattern < pattern_count_by (rare_of shape.now) }
+    requires pattern { row.pattern < pattern_count_by (rare_of shape.now) }
     requires count { length ends.old.items ≡ pattern_count_by (rare_of shape.now) }
     requires right { All (IsEnd (rare_of shape.now)) ends.old.items }
     ensures count { length ends.new.items ≡ length ends.old.items }
     ensures right { All (IsEnd (rare_of shape.now)) ends.new.items }
-    ensures end { OnOk result ((d : End) → (slice_index_or ends.new.items row.now.pattern d).text.items ≡ pair_end (rare_of shape.now) row.now) }
+    ensures end { OnOk result ((d : End) → KeepsEnd (pair_end (rare_of shape.now) row) (slice_index_or ends.new.items row.pattern d)) }
 {
-    let end = line_end(alloc, shape, row)?;
+    let end = line_end(alloc, shape, &row)?;
     ends[usize::from(row.pattern)] = end;
     Ok(())
 }
@@ -144,16 +153,16 @@ fn renew(
     ends: &mut Vec<LineEnd>,
     alloc: Global,
     shape: &Shape,
-    row: &PairRow,
+    row: PairRow,
 ) -> Result<(), NoMemory>
-    requires pattern { row.now.pattern < pattern_count_by (rare_of shape.now) }
+    requires pattern { row.pattern < pattern_count_by (rare_of shape.now) }
     requires count { length ends.old.items ≡ pattern_count_by (rare_of shape.now) }
     requires right { All (IsEnd (rare_of shape.now)) ends.old.items }
     ensures count { length ends.new.items ≡ length ends.old.items }
     ensures right { All (IsEnd (rare_of shape.now)) ends.new.items }
-    ensures end { OnOk result ((d : End) → (slice_index_or ends.new.items row.now.pattern d).text.items ≡ pair_end (rare_of shape.now) row.now) }
+    ensures end { OnOk result ((d : End) → KeepsEnd (pair_end (rare_of shape.now) row) (slice_index_or ends.new.items row.pattern d)) }
 {
-    if same_end(&ends[usize::from(row.pattern)].of, row) {
+    if same_end(&ends[usize::from(row.pattern)].of, &row) {
         return Ok(());
     }
     replace_end(ends, alloc, shape, row)
@@ -192,14 +201,22 @@ impl LineEnds {
         })
     }
 
-    /// Appends the end of the line of a pair, which is made anew only where it is not that of the last pair with this pattern.
-    pub(crate) fn push_end(&mut self, text: &mut Vec<u8>, row: &PairRow) -> Result<(), NoMemory>
+    /// Appends the line of a pair with its two ids as fields. The end of the line is made anew only where it is not that of the last
+    /// pair with this pattern.
+    #[inline(always)]
+    pub(crate) fn append_line(
+        &mut self,
+        text: &mut Vec<u8>,
+        first: Piece<'_>,
+        second: Piece<'_>,
+        row: &PairRow,
+    ) -> Result<(), NoMemory>
         requires { row.now.pattern < pattern_count_by self.old }
         ensures same { self.new ≡ self.old }
-        ensures text { OnOk result (text.new.items ≡ text.old.items ++ pair_end self.old row.now) }
+        ensures text { OnOk result (text.new.items ≡ text.old.items ++ two_fields first.entry second.entry ++ pair_end self.old row.now) }
     {
-        renew(&mut self.ends, self.alloc, &self.shape, row)?;
-        text.extend_from_slice(&self.ends[usize::from(row.pattern)].text)?;
-        Ok(())
+        renew(&mut self.ends, self.alloc, &self.shape, *row)?;
+        let end = &self.ends[usize::from(row.pattern)];
+        append_line(text, first, second, Piece::within(&end.text, 0, end.bytes))
     }
 }

@@ -2,10 +2,10 @@
 ghost use Rattle.std.specs.Prelude.{◌≡◌, ◌<◌, ◌+◌, ◌-◌, ◌^◌, ◌++◌, ◌∷◌, [], IfOk, IsTrue, OnOk, length};
 ghost use Rattle.csv.specs.Writing.{default_writer, field_text};
 ghost use Rattle.link_base.specs.Standard.{id_at};
-ghost use Rattle.link_report.specs.LineParts.{ArePlain, id_fields, line_start, two_fields};
+ghost use Rattle.link_report.specs.LineParts.{ArePlain, id_fields, two_fields};
 
 use csv_rows::{calls_for_quotes, push_field};
-use link_base::{NoMemory, PairAt, StdFile, TextRegion};
+use link_base::{NoMemory, Piece, StdFile, TextRegion};
 use std::alloc::Global;
 use std::marker::Model;
 
@@ -88,15 +88,24 @@ impl<'f> IdFields<'f> {
         self.file.rows()
     }
 
+    // The field of the record at a position, as a piece of the room of all fields.
+    #[inline(always)]
+    pub(crate) fn piece(&self, at: u32) -> Piece<'_>
+        requires { at < length self.now }
+        ensures { result ≡ field_text default_writer (id_at self.now at) }
+    {
+        if let Some(fields) = &self.quoted {
+            return fields.piece(at as usize);
+        }
+        self.file.id_piece(at)
+    }
+
     // The field of the record at a position.
     pub(crate) fn field(&self, at: u32) -> &[u8]
         requires { at < length self.now }
         ensures { result.now ≡ field_text default_writer (id_at self.now at) }
     {
-        match &self.quoted {
-            Some(fields) => fields.get(at as usize),
-            None => self.file.id(at),
-        }
+        self.piece(at).text()
     }
 
     // How many bytes the id of the last record has, 0 where there is none.
@@ -129,19 +138,4 @@ pub(crate) fn push_two(text: &mut Vec<u8>, first: &[u8], second: &[u8]) -> Resul
     text.push(b',')?;
     text.extend_from_slice(second)?;
     Ok(())
-}
-
-/// Appends the ids of a pair, the first two fields of a line.
-#[inline(always)]
-pub(crate) fn push_ids(
-    text: &mut Vec<u8>,
-    at: PairAt,
-    a: &IdFields<'_>,
-    b: &IdFields<'_>,
-) -> Result<(), NoMemory>
-    requires in_a { at.a < length a.now }
-    requires in_b { at.b < length b.now }
-    ensures { OnOk result (text.new.items ≡ text.old.items ++ line_start a.now b.now at) }
-{
-    push_two(text, a.field(at.a), b.field(at.b))
 }

@@ -7,6 +7,7 @@ mod frontier;
 mod head;
 mod id_fields;
 mod ids;
+mod lines;
 mod links;
 mod open;
 mod pairs;

@@ -1,14 +1,15 @@
 // The final links.
 ghost use Rattle.std.specs.Prelude.{◌≡◌, ◌<◌, ◌++◌, All, IfOk, IsTrue, OnOk, length, slice_index_or};
 ghost use Rattle.link_base.specs.declared.rule.Candidate.{Candidate as Link};
-ghost use Rattle.link_report.specs.LineParts.{IsLinkEnd, end_of_link};
+ghost use Rattle.link_report.specs.LineParts.{IsLinkEnd, KeepsLinkEnd, end_of_link};
 ghost use Rattle.link_report.specs.declared.links.LinkEnd.{LinkEnd as End};
 ghost use Rattle.link_report.specs.LinksText.{link_row, source_of_link, text_of_links};
 
-use crate::id_fields::{IdFields, push_ids, usual_id_bytes};
+use crate::id_fields::{IdFields, usual_id_bytes};
+use crate::lines::{END_BYTES, append_line};
 use csv_rows::push_row;
 use itoa::Buffer;
-use link_base::{Candidate, NoMemory, PairAt, Text};
+use link_base::{Candidate, NoMemory, Piece, Text};
 use std::alloc::Global;
 
 // How many ends of lines are kept.
@@ -28,28 +29,43 @@ pub fn source_of(link: &Candidate) -> &[u8]
 #[derive(Drop)]
 pub(crate) struct LinkEnd {
     of: Candidate,
+    // The end, and behind it as many bytes as are copied with one that is short.
     text: Vec<u8>,
+    // How many bytes the end has.
+    bytes: usize,
+}
+
+// Appends the end of the line of a link.
+fn push_end(text: &mut Vec<u8>, link: &Candidate) -> Result<(), NoMemory>
+    ensures { OnOk result (text.new.items ≡ text.old.items ++ end_of_link link.now) }
+{
+    let mut weight = Buffer::new();
+    let mut value = Buffer::new();
+    push_row(
+        text,
+        &[
+            b"",
+            weight.format(link.weight).as_bytes(),
+            value.format(link.value).as_bytes(),
+            source_of(link),
+        ],
+    )
 }
 
 // The end of the line of a link.
 fn link_end(alloc: Global, link: Candidate) -> Result<LinkEnd, NoMemory>
     ensures of { IfOk result (λ end. end.of ≡ link) }
-    ensures text { IfOk result (λ end. end.text.items ≡ end_of_link link) }
     ensures right { IfOk result IsLinkEnd }
 {
-    let mut weight = Buffer::new();
-    let mut value = Buffer::new();
     let mut text = Vec::new(alloc);
-    push_row(
-        &mut text,
-        &[
-            b"",
-            weight.format(link.weight).as_bytes(),
-            value.format(link.value).as_bytes(),
-            source_of(&link),
-        ],
-    )?;
-    Ok(LinkEnd { of: link, text })
+    push_end(&mut text, &link)?;
+    let bytes = text.len();
+    text.extend_from_slice(&[0; END_BYTES])?;
+    Ok(LinkEnd {
+        of: link,
+        text,
+        bytes,
+    })
 }
 
 // Ends to be renewed.
@@ -85,7 +101,7 @@ fn renew(ends: &mut Vec<LinkEnd>, alloc: Global, at: usize, link: Candidate) -> 
     requires right { All IsLinkEnd ends.old.items }
     ensures count { length ends.new.items ≡ length ends.old.items }
     ensures right { All IsLinkEnd ends.new.items }
-    ensures end { OnOk result ((d : End) → (slice_index_or ends.new.items at d).text.items ≡ end_of_link link) }
+    ensures end { OnOk result ((d : End) → KeepsLinkEnd (end_of_link link) (slice_index_or ends.new.items at d)) }
 {
     if same_end(ends[at].of, link) {
         return Ok(());
@@ -96,6 +112,7 @@ fn renew(ends: &mut Vec<LinkEnd>, alloc: Global, at: usize, link: Candidate) -> 
 }
 
 // Appends the row of a link. Its end is kept at a place that its weight chooses.
+#[tactic(auto, using(crate::proofs::LineLemmas::link_written))]
 fn push_link(
     text: &mut Vec<u8>,
     ends: &mut Vec<LinkEnd>,
@@ -114,13 +131,9 @@ fn push_link(
 {
     let at = link.weight.unsigned_abs() as usize % KEPT_ENDS;
     renew(ends, alloc, at, link)?;
-    let pair = PairAt {
-        a: link.a,
-        b: link.b,
-    };
-    push_ids(text, pair, a, b)?;
-    text.extend_from_slice(&ends[at].text)?;
-    Ok(())
+    let end = &ends[at];
+    let end = Piece::within(&end.text, 0, end.bytes);
+    append_line(text, a.piece(link.a), b.piece(link.b), end)
 }
 
 /// The text of the final links: the header `id_a,id_b,weight,value,by`, and a row for each link in order, by `review` where

@@ -5,7 +5,7 @@ ghost use Rattle.link_report.specs.PairsText.{pair_row, pairs_header};
 ghost use Rattle.patterns.specs.Patterns.{pattern_count_by, rare_of};
 
 use crate::ends::LineEnds;
-use crate::id_fields::{IdFields, push_ids};
+use crate::id_fields::IdFields;
 use crate::open::PairRow;
 use link_base::{NoMemory, Shape, Text};
 use std::alloc::Global;
@@ -56,8 +56,8 @@ impl PairsWriter {
         ensures rares { self.new.rares ≡ self.old.rares }
         ensures text { OnOk result (self.new.text ≡ self.old.text ++ pair_row self.old.rares a.now b.now row.now) }
     {
-        push_ids(&mut self.text, row.at, a, b)?;
-        self.ends.push_end(&mut self.text, row)
+        let (first, second) = (a.piece(row.at.a), b.piece(row.at.b));
+        self.ends.append_line(&mut self.text, first, second, row)
     }
 
     /// The text, which takes no memory.

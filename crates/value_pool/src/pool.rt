@@ -6,7 +6,7 @@ use crate::hashes::{hash, last_word};
 use crate::id::Id;
 use crate::table::{Search, Table};
 use link_limits::MOST_POOL_LIMIT;
-use link_texts::NoMemory;
+use link_texts::{NoMemory, Piece};
 use std::alloc::Global;
 use std::marker::Model;
 
@@ -84,16 +84,16 @@ impl Pool {
         requires { id < length self.now.texts }
         ensures { slice_get self.now.texts id ≡ Some result.now }
     {
-        self.text_at(id.place())
+        self.piece_at(id.place()).text()
     }
 
-    /// The bytes of the text at a place.
-    pub fn text_at(&self, place: u32) -> &[u8]
+    /// The bytes of the text at a place, as a piece of the room of all texts.
+    pub fn piece_at(&self, place: u32) -> Piece<'_>
         requires { place < length self.now.texts }
-        ensures { slice_get self.now.texts place ≡ Some result.now }
+        ensures { slice_get self.now.texts place ≡ Some result }
     {
         let slot = self.table.slots[place as usize];
-        &self.table.bytes[slot.start as usize..slot.end as usize]
+        Piece::within(&self.table.bytes, slot.start as usize, slot.end as usize)
     }
 
     /// No text stands twice, so two ids are equal exactly where their texts are; all texts together keep the limit.
