@@ -10,6 +10,8 @@ use std::alloc::Global;
 const USUAL_LINE: usize = 12;
 // How many bytes a line has at most: two numbers of ten digits, a comma and the end.
 const MOST_LINE: usize = 22;
+// Room for a line, and behind each place in it for as many bytes.
+const LINE_ROOM: usize = 44;
 
 // Appends the number of a row in decimal digits.
 pub(crate) fn push_row(text: &mut Vec<u8>, row: u64) -> Result<(), NoMemory>
@@ -25,11 +27,13 @@ pub(crate) fn push_row(text: &mut Vec<u8>, row: u64) -> Result<(), NoMemory>
 fn push_pair(text: &mut Vec<u8>, pair: PairAt) -> Result<(), NoMemory>
     ensures { OnOk result (text.new.items ≡ text.old.items ++ pair_line pair) }
 {
-    let mut line = [b'\n'; MOST_LINE];
+    let mut line = [b'\n'; LINE_ROOM];
     let comma = write_digits(u64::from(pair.b) + 1, &mut line, MOST_LINE - 1) - 1;
     line[comma] = b',';
     let start = write_digits(u64::from(pair.a) + 1, &mut line, comma);
-    text.extend_from_slice(&line[start..])?;
+    let end = text.len() + (MOST_LINE - start);
+    text.extend_from_slice(&line[start..start + MOST_LINE])?;
+    text.truncate(end);
     Ok(())
 }
 
@@ -37,7 +41,13 @@ fn push_pair(text: &mut Vec<u8>, pair: PairAt) -> Result<(), NoMemory>
 pub(crate) fn rows_text(alloc: Global, pairs: &[PairAt]) -> Result<Vec<u8>, NoMemory>
     ensures { IfOk result (λ text. text.items ≡ pairs_text pairs.now) }
 {
-    let mut text = Vec::with_capacity(alloc, pairs.len().saturating_mul(USUAL_LINE))?;
+    let mut text = Vec::with_capacity(
+        alloc,
+        pairs
+            .len()
+            .saturating_mul(USUAL_LINE)
+            .saturating_add(MOST_LINE),
+    )?;
     text.extend_from_slice(b"row_a,row_b\n")?;
     for pair in pairs {
         push_pair(&mut text, *pair)?;
